@@ -1,0 +1,4 @@
+pub mod Instances
+pub mod Cancel
+pub mod Places
+pub mod Pairing

@@ -1,0 +1,5 @@
+pub mod Once
+pub mod Groups
+pub mod Lookup
+pub mod Halves
+pub mod Theorems
