@@ -1,4 +1,5 @@
 // What a party holds of a correlation: the sender's half and the receiver's half.
+pub mod words;
 
 // The masks of a table's entries, and the blind whose inverse is the sender's share.
 #[derive(Clone, Copy)]

@@ -2,13 +2,14 @@
 ghost use mathlib.Core.Path.{_≡_};
 ghost use mathlib.Core.List.{map};
 ghost use Prim.Native.Nat.{ℕ, _<_, _^_};
-ghost use lib.ListN.{length, getD};
+ghost use lib.ListN.{length};
 ghost use Rattle.std.specs.Iters.{counting};
 ghost use Rattle.lookup.specs.Lookup.{minus as back, entry-of as entryOf, request as requestOf, word as wordOf, sender-share as senderShare, receiver-share as receiverShare};
 ghost use Rattle.lookup.specs.Halves.{sender-of as senderOf, receiver-of as receiverOf};
 use crate::group::Group;
 use crate::half::ReceiverHalf;
 use crate::half::SenderHalf;
+use crate::half::words::at;
 
 // a - b, counted round n places.
 fn minus(n: usize, a: usize, b: usize) -> usize
@@ -20,13 +21,6 @@ fn minus(n: usize, a: usize, b: usize) -> usize
     } else {
         n.saturating_sub(b - a)
     }
-}
-
-// The word at a place, or 0 past the end.
-fn at(words: &[u32], i: usize) -> u32
-    ensures { λ r. ⌜ r ≡ getD (now (words .entry)) i 0 ⌝ }
-{
-    if i < words.len() { words[i] } else { 0 }
 }
 
 // What the receiver sends, to look up an index in a table of so many entries.

@@ -1,8 +1,8 @@
 // The three kinds of correlation: how many entries a table has, and which seat sends.
 ghost use mathlib.Core.Path.{_≡_};
-ghost use Prim.Native.Nat.{ℕ, _<_, _≤_};
+ghost use Prim.Native.Nat.{ℕ, _<_};
 ghost use Rattle.std.specs.Options.{Cases};
-ghost use Rattle.refusal.specs.Kinds.{number, entries, sender};
+ghost use Rattle.refusal.specs.Kinds.{number, kind-of as kindOf, entries, sender};
 
 // `Bit` correlations serve lookups of bits, `Ring0` and `Ring1` lookups of 32-bit numbers in which
 // seat 0 or seat 1 sends.
@@ -16,7 +16,7 @@ pub enum Kind {
 impl Kind {
     // The kind with a number, if there is one.
     pub fn from_number(n: u8) -> Option<Kind>
-        ensures { λ r. ⌜ Cases r (2 < n) (λ k. number k ≡ n) ⌝ }
+        ensures { λ r. ⌜ Cases r (2 < n) (λ k. (n < 3) × (k ≡ kindOf n)) ⌝ }
     {
         match n {
             0 => Some(Kind::Bit),

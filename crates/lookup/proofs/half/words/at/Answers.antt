@@ -1,6 +1,6 @@
 use mathlib.Core.Path.{sym}
 use Rattle.std.proofs.shelf.Lists.{getD-past}
-use Rattle.lookup.proofs.steps.at.Needs as need
+use Rattle.lookup.proofs.half.words.at.Needs as need
 
 pub returns-else-i-words : need.returns-else-i-words
 returns-else-i-words c = sym (getD-past _ _ _ (c .if-i-words .left))

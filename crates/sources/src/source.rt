@@ -1,0 +1,38 @@
+// The interface of a source of halves.
+ghost use mathlib.Core.Path.{_≡_};
+ghost use Prim.Native.Nat.{ℕ, _<_};
+ghost use Rattle.std.specs.shelf.Lists.{All};
+ghost use Rattle.refusal.specs.declared.kind.Kind.{Kind as KindOf};
+ghost use Rattle.refusal.specs.declared.refusal.Layer.{Layer as LayerOf};
+ghost use Rattle.sources.specs.Halves.{Halves, In-range as InRange};
+ghost use Rattle.sources.specs.Calls.{Affords, Draws};
+use refusal::refusal::Refusal;
+
+// A source stands for a seat and, of each kind, the list of halves not yet drawn.
+pub trait Source {
+    // The seat whose halves these are.
+    ghost owner: { Self → ℕ };
+
+    ghost left: { Self → Halves };
+
+    // What a shortage of a kind gives as its layer.
+    ghost layer: { Self → KindOf → LayerOf };
+
+    // Each field of each half is in range: what every `impl` proves.
+    ghost ranges: { (s : Self) (k : KindOf) → All (InRange (owner s) k) (left s k) };
+
+    fn seat(&self) -> u8
+        ensures is { λ r. ⌜ r ≡ owner (now (self .entry)) ⌝ }
+        ensures low { λ r. ⌜ r < 2 ⌝ };
+
+    // Whether so many halves of a kind are left.
+    fn afford(&self, kind: u8, count: u32) -> Result<(), Refusal>
+        ensures { λ r. ⌜ Affords (left (now (self .entry))) (layer (now (self .entry))) kind count r ⌝ };
+
+    // Writes the first half of a kind in front of the words, one field a word, takes it off the list,
+    // and answers how many words it has.
+    fn draw(&mut self, kind: u8, words: &mut [u32]) -> Result<usize, Refusal>
+        ensures draws { λ r. ⌜ Draws (owner (now (self .entry))) (left (now (self .entry))) (left (now (self .exit))) (layer (now (self .entry))) kind (now (words .entry)) (now (words .exit)) r ⌝ }
+        ensures owner { λ _. ⌜ owner (now (self .exit)) ≡ owner (now (self .entry)) ⌝ }
+        ensures layer { λ _. ⌜ layer (now (self .exit)) ≡ layer (now (self .entry)) ⌝ };
+}
