@@ -1,10 +1,13 @@
 // A limit over any source, itself a source.
 ghost use mathlib.Core.Path.{_≡_};
+ghost use mathlib.Core.Bool.{cond};
 ghost use mathlib.Core.List.{_++_};
-ghost use lib.ListN.{take, drop};
+ghost use lib.Dec.{ltb};
+ghost use lib.ListN.{length, take, drop};
 ghost use Rattle.std.proofs.shelf.Elements.{all-take as allTake};
 ghost use Rattle.refusal.specs.PerKinds.{at};
 ghost use Rattle.refusal.specs.declared.kind.Kind.{Kind as KindOf};
+ghost use Rattle.refusal.specs.declared.refusal.Layer.the-variants.{Quota as QuotaLayer};
 ghost use Rattle.sources.specs.Halves.{In-range as InRange};
 ghost use Rattle.sources.specs.Calls.{Draws};
 ghost use Rattle.sources.specs.Quotas.{quota-owner as quotaOwner, quota-left as quotaLeft, quota-layer as quotaLayer, quota-past as quotaPast};
@@ -27,6 +30,7 @@ impl<S: Source> Quota<S> {
         ensures owner { λ r. ⌜ quotaOwner owner r ≡ owner below ⌝ }
         ensures left { λ r. ⌜ ((k : KindOf) → quotaLeft left r k ≡ take (at allowed k) (left below k)) ⌝ }
         ensures past { λ r. ⌜ ((k : KindOf) → quotaPast left r k ≡ drop (at allowed k) (left below k)) ⌝ }
+        ensures layer { λ r. ⌜ ((k : KindOf) → quotaLayer left layer r k ≡ cond (ltb (length (left below k)) (at allowed k)) (layer below k) QuotaLayer) ⌝ }
     {
         Quota { below, allowed }
     }

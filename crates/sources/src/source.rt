@@ -4,9 +4,21 @@ ghost use Prim.Native.Nat.{ℕ, _<_};
 ghost use Rattle.std.specs.shelf.Lists.{All};
 ghost use Rattle.refusal.specs.declared.kind.Kind.{Kind as KindOf};
 ghost use Rattle.refusal.specs.declared.refusal.Layer.{Layer as LayerOf};
-ghost use Rattle.sources.specs.Halves.{Halves, In-range as InRange};
+ghost use Rattle.sources.specs.Halves.{Halves, In-range as InRange, width as widthOf};
 ghost use Rattle.sources.specs.Calls.{Affords, Draws};
+use refusal::kind::Kind;
 use refusal::refusal::Refusal;
+
+// How many words a seat's half of a kind has.
+pub fn width(seat: u8, kind: Kind) -> usize
+    ensures { λ r. ⌜ r ≡ widthOf seat kind ⌝ }
+{
+    if seat == kind.sender() {
+        kind.entries() as usize + 1
+    } else {
+        2
+    }
+}
 
 // A source stands for a seat and, of each kind, the list of halves not yet drawn.
 pub trait Source {

@@ -1,0 +1,3 @@
+pub mod Running
+pub mod Ranges
+pub mod Dealers
