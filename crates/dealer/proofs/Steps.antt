@@ -93,5 +93,6 @@ module _ (seat kind : ℕ) (counts running : PerKind ℕ) where
     where
       count-is : at counts′ k ≡ at counts k - 1
       count-is = ap (λ p. at p k) fewer ∙ at-with-same k (at counts k - 1) counts
+
       running-is : at running′ k ≡ run (entries k + 2) (at running k)
       running-is = ap (λ p. at p k) moved ∙ at-with-same k (run (entries k + 2) (at running k)) running

@@ -111,14 +111,27 @@ impl Refusal {
     {
         match self {
             Refusal::CorrelationsShort { party, shortage } => {
-                let Shortage { kind, lacking, layer } = *shortage;
+                let Shortage {
+                    kind,
+                    lacking,
+                    layer,
+                } = *shortage;
                 Values {
-                    words: [*party as u32, kind.number() as u32, lacking, layer.number() as u32],
+                    words: [
+                        *party as u32,
+                        kind.number() as u32,
+                        lacking,
+                        layer.number() as u32,
+                    ],
                     count: 4,
                 }
             }
             Refusal::Short(shortage) => {
-                let Shortage { kind, lacking, layer } = *shortage;
+                let Shortage {
+                    kind,
+                    lacking,
+                    layer,
+                } = *shortage;
                 Values {
                     words: [kind.number() as u32, lacking, layer.number() as u32, 0],
                     count: 3,

@@ -113,6 +113,7 @@ module _ (a : PerKind ℕ) (seat : ℕ) (left left′ : Halves) (kind : ℕ) (ws
     where
       here : ltb (length (left′ k)) (at lower k) ≡ ltb (length (left k)) (at a k)
       here = still-shorter (length (left′ k)) (at a k) (length (left k)) (at lower k) (sym (ap length (d .first))) some (at-with-same k (at a k - 1) a)
+
       test : (j : Kind) → ltb (length (left′ j)) (at lower j) ≡ ltb (length (left j)) (at a j)
       test j = elim (same-kind j k) [
         | inl q ↦ subst (λ i. ltb (length (left′ i)) (at lower i) ≡ ltb (length (left i)) (at a i)) (sym q) here

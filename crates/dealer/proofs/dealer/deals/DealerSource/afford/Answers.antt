@@ -11,7 +11,6 @@ use Rattle.dealer.specs.Dealers.{dealer-left}
 use Rattle.dealer.proofs.Steps.{length-dealt}
 use Rattle.dealer.proofs.dealer.deals.DealerSource.afford.Needs as need
 
-
 pub returns-then-have-count : need.returns-then-have-count
 returns-then-have-count c =
     let s = c .args .self .now in
