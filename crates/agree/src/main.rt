@@ -2,10 +2,11 @@
 use conjunction::Exchange;
 use conjunction::Shares;
 use conjunction::conjoin;
-use dealer::dealer::Dealer;
 use dealer::dealer::deals::DealerSource;
+use dealer::dealer::deals::deal;
 use refusal::per_kind::PerKind;
-use refusal::shown::RefusalError;
+use refusal::text::RefusalDisplay;
+use refusal::text::RefusalError;
 use std::error::AnyError;
 
 mod conjunction;
@@ -50,8 +51,7 @@ fn run(rt: &impl Print) -> Result<(), AnyError> {
         ring0: 0,
         ring1: 0,
     };
-    let mut first = Dealer::new(0, 1, counts)?;
-    let mut second = Dealer::new(1, 1, counts)?;
+    let (mut first, mut second) = deal(1, counts);
     let mut agreed = 0u32;
     for i in 0..16u32 {
         let (a, b) = inputs(i);
@@ -61,6 +61,11 @@ fn run(rt: &impl Print) -> Result<(), AnyError> {
         }
     }
     println!(rt, "{agreed} of 16 results are x and y")?;
+    let (a, b) = inputs(0);
+    match conjoin(&mut first, &mut second, a, b) {
+        Ok(_) => println!(rt, "a seventeenth lookup went ahead")?,
+        Err(e) => println!(rt, "a seventeenth lookup: {e}")?,
+    }
     Ok(())
 }
 

@@ -54,7 +54,7 @@ halves-fit Bit x = fits Bit x
 halves-fit Ring0 x = fits Ring0 x
 halves-fit Ring1 x = fits Ring1 x
 
-dealt-fit : (k : Kind) (n x : ℕ) → Each (Fits k) (dealt 0 k n x) (dealt 1 k n x)
+pub dealt-fit : (k : Kind) (n x : ℕ) → Each (Fits k) (dealt 0 k n x) (dealt 1 k n x)
 dealt-fit k zero x = tt
 dealt-fit k (suc n) x = (halves-fit k x, dealt-fit k n (run (entries k + 2) x))
 

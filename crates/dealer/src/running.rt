@@ -3,7 +3,7 @@ ghost use mathlib.Core.Path.{_≡_};
 ghost use Prim.Native.Nat.{ℕ, _+_, _/_, _^_, _<_, _≤_};
 ghost use lib.ListN.{length, take, drop};
 ghost use Rattle.refusal.specs.Kinds.{entries};
-ghost use Rattle.dealer.specs.Running.{step, run, mask-low as maskLow, choice-low as choiceLow, sender-half as senderHalf, receiver-half as receiverHalf, half as halfOf};
+ghost use Rattle.dealer.specs.Running.{step, run, mask-low as maskLow, choice-low as choiceLow, mask as maskOf, sender-half as senderHalf, receiver-half as receiverHalf, half as halfOf};
 ghost use Rattle.sources.specs.Halves.{width as widthOf};
 use refusal::kind::Kind;
 
@@ -50,6 +50,29 @@ pub fn choice_of(kind: Kind, x: u64) -> u32
     }
 }
 
+// How many words a sender's half has: the masks, and the blind.
+fn masks_and_blind(kind: Kind) -> usize
+    ensures is { λ r. ⌜ r ≡ entries kind + 1 ⌝ }
+    ensures few { λ r. ⌜ r ≤ 17 ⌝ }
+{
+    kind.entries() as usize + 1
+}
+
+// The running number that follows a whole correlation: its masks, its blind and its choice.
+fn after(kind: Kind, x: u64) -> u64
+    ensures { λ r. ⌜ r ≡ run (entries kind + 2) x ⌝ }
+{
+    ahead(x, kind.entries() + 2)
+}
+
+// Mask `i` of the correlation that begins at x.
+fn mask_at(kind: Kind, x: u64, i: u32) -> u32
+    requires { ⌜ i < 16 ⌝ }
+    ensures { λ r. ⌜ r ≡ maskOf kind x i ⌝ }
+{
+    mask_of(kind, ahead(x, i + 1))
+}
+
 fn write_sender(kind: Kind, x: u64, words: &mut [u32]) -> u64
     requires { ⌜ 17 ≤ length (now words) ⌝ }
     ensures after { λ r. ⌜ r ≡ run (entries kind + 2) x ⌝ }
@@ -57,7 +80,7 @@ fn write_sender(kind: Kind, x: u64, words: &mut [u32]) -> u64
     ensures past { λ _. ⌜ drop (entries kind + 1) (now (words .exit)) ≡ drop (entries kind + 1) (now (words .entry)) ⌝ }
 {
     let mut y = x;
-    for i in 0..kind.entries() as usize + 1 {
+    for i in 0..masks_and_blind(kind) {
         y = next(y);
         words[i] = mask_of(kind, y);
     }
@@ -70,9 +93,9 @@ fn write_receiver(kind: Kind, x: u64, words: &mut [u32]) -> u64
     ensures front { λ _. ⌜ take 2 (now (words .exit)) ≡ receiverHalf kind x ⌝ }
     ensures past { λ _. ⌜ drop 2 (now (words .exit)) ≡ drop 2 (now (words .entry)) ⌝ }
 {
-    let last = ahead(x, kind.entries() + 2);
+    let last = after(kind, x);
     let choice = choice_of(kind, last);
-    let mask = mask_of(kind, ahead(x, choice + 1));
+    let mask = mask_at(kind, x, choice);
     words[0] = choice;
     words[1] = mask;
     last

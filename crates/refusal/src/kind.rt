@@ -6,7 +6,7 @@ ghost use Rattle.refusal.specs.Kinds.{number, kind-of as kindOf, entries, send
 
 // `Bit` correlations serve lookups of bits, `Ring0` and `Ring1` lookups of 32-bit numbers in which
 // seat 0 or seat 1 sends.
-#[derive(Clone, Copy, Debug, PartialEq, Eq)]
+#[derive(Clone, Copy)]
 pub enum Kind {
     Bit,
     Ring0,

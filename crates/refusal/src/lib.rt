@@ -2,4 +2,4 @@
 pub mod kind;
 pub mod per_kind;
 pub mod refusal;
-pub mod shown;
+pub mod text;

@@ -3,11 +3,9 @@ ghost use mathlib.Core.Path.{_≡_};
 ghost use lib.ListN.{take};
 ghost use Rattle.refusal.specs.Refusals.{code, layer-number as layerNumber, Codes-tell-apart as CodesTellApart};
 use crate::kind::Kind;
-use crate::kind::KindDebug;
-use crate::kind::KindPartialEq;
 
 // Which kind of source ran short.
-#[derive(Clone, Copy, Debug, PartialEq, Eq)]
+#[derive(Clone, Copy)]
 pub enum Layer {
     Sheet,
     Dealer,
@@ -15,14 +13,14 @@ pub enum Layer {
 }
 
 // A source has fewer halves of a kind than were asked for.
-#[derive(Clone, Copy, Debug, PartialEq, Eq)]
+#[derive(Clone, Copy)]
 pub struct Shortage {
     pub kind: Kind,
     pub lacking: u32,
     pub layer: Layer,
 }
 
-#[derive(Clone, Copy, Debug, PartialEq, Eq)]
+#[derive(Clone, Copy)]
 pub enum Refusal {
     // The two parties of a session are not at seats 0 and 1, in this order.
     SeatsWrong,

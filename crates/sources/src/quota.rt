@@ -2,21 +2,22 @@
 ghost use mathlib.Core.Path.{_≡_};
 ghost use mathlib.Core.Bool.{cond};
 ghost use mathlib.Core.List.{_++_};
+ghost use Prim.Native.Nat.{_-_, _<_};
 ghost use lib.Dec.{ltb};
 ghost use lib.ListN.{length, take, drop};
 ghost use Rattle.std.proofs.shelf.Elements.{all-take as allTake};
-ghost use Rattle.refusal.specs.PerKinds.{at};
+ghost use Rattle.refusal.specs.PerKinds.{at, with-at as withAt};
 ghost use Rattle.refusal.specs.declared.kind.Kind.{Kind as KindOf};
 ghost use Rattle.refusal.specs.declared.refusal.Layer.the-variants.{Quota as QuotaLayer};
 ghost use Rattle.sources.specs.Halves.{In-range as InRange};
 ghost use Rattle.sources.specs.Calls.{Draws};
 ghost use Rattle.sources.specs.Quotas.{quota-owner as quotaOwner, quota-left as quotaLeft, quota-layer as quotaLayer, quota-past as quotaPast};
 use crate::source::Source;
+use crate::source::enough;
 use refusal::kind::Kind;
 use refusal::per_kind::PerKind;
 use refusal::refusal::Layer;
 use refusal::refusal::Refusal;
-use refusal::refusal::Shortage;
 
 // The first `allowed` halves of each kind of the source below.
 #[derive(Drop)]
@@ -43,6 +44,24 @@ impl<S: Source> Quota<S> {
         let Quota { below, allowed: _ } = self;
         below
     }
+
+    // Whether the list below is shorter than the quota.
+    fn is_short_below(&self, kind: Kind) -> bool
+        ensures { λ r. ⌜ r ≡ ltb (length (left (now (self .entry) .below) kind)) (at (now (self .entry) .allowed) kind) ⌝ }
+    {
+        self.below
+            .afford(kind.number(), self.allowed.get(kind))
+            .is_err()
+    }
+
+    // One half of a kind fewer is allowed.
+    fn lower(&mut self, kind: Kind)
+        requires { ⌜ 0 < at (now self .allowed) kind ⌝ }
+        ensures { λ _. ⌜ now (self .exit) ≡ record { below = now (self .entry) .below; allowed = withAt kind (at (now (self .entry) .allowed) kind - 1) (now (self .entry) .allowed) } ⌝ }
+    {
+        let number = self.allowed.get(kind);
+        self.allowed.put(kind, number - 1);
+    }
 }
 
 pub impl<S: Source> Source for Quota<S> as QuotaSource {
@@ -62,22 +81,10 @@ pub impl<S: Source> Source for Quota<S> as QuotaSource {
         let Some(k) = Kind::from_number(kind) else {
             return Err(Refusal::BadArgument);
         };
-        let number = self.allowed.get(k);
-        match self.below.afford(kind, number) {
-            Ok(()) => {
-                if number < count {
-                    Err(Refusal::Short(Shortage {
-                        kind: k,
-                        lacking: count - number,
-                        layer: Layer::Quota,
-                    }))
-                } else {
-                    Ok(())
-                }
-            }
-            // the list below is shorter than the quota, so its own answer stands
-            Err(_) => self.below.afford(kind, count),
+        if self.is_short_below(k) {
+            return self.below.afford(kind, count);
         }
+        enough(k, self.allowed.get(k), count, Layer::Quota)
     }
 
     fn draw(&mut self, kind: u8, words: &mut [u32]) -> Result<usize, Refusal>
@@ -92,16 +99,11 @@ pub impl<S: Source> Source for Quota<S> as QuotaSource {
         if words.len() < 17 {
             return Err(Refusal::PlaceTooShort);
         }
-        let number = self.allowed.get(k);
-        if number == 0 {
-            return Err(Refusal::Short(Shortage {
-                kind: k,
-                lacking: 1,
-                layer: Layer::Quota,
-            }));
+        if let Err(e) = enough(k, self.allowed.get(k), 1, Layer::Quota) {
+            return Err(e);
         }
         let n = self.below.draw(kind, words)?;
-        self.allowed.put(k, number - 1);
+        self.lower(k);
         Ok(n)
     }
 }

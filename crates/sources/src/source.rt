@@ -1,13 +1,17 @@
 // The interface of a source of halves.
 ghost use mathlib.Core.Path.{_≡_};
-ghost use Prim.Native.Nat.{ℕ, _<_};
+ghost use Prim.Native.Nat.{ℕ, _-_, _<_, _≤_};
+ghost use Rattle.std.specs.Results.{Cases};
 ghost use Rattle.std.specs.shelf.Lists.{All};
 ghost use Rattle.refusal.specs.declared.kind.Kind.{Kind as KindOf};
 ghost use Rattle.refusal.specs.declared.refusal.Layer.{Layer as LayerOf};
+ghost use Rattle.refusal.specs.Refusals.{code, short};
 ghost use Rattle.sources.specs.Halves.{Halves, In-range as InRange, width as widthOf};
 ghost use Rattle.sources.specs.Calls.{Affords, Draws};
 use refusal::kind::Kind;
+use refusal::refusal::Layer;
 use refusal::refusal::Refusal;
+use refusal::refusal::Shortage;
 
 // How many words a seat's half of a kind has.
 pub fn width(seat: u8, kind: Kind) -> usize
@@ -18,6 +22,20 @@ pub fn width(seat: u8, kind: Kind) -> usize
     } else {
         2
     }
+}
+
+// Whether `have` halves of a kind serve for as many as are asked for, and else the shortage.
+pub fn enough(kind: Kind, have: u32, asked: u32, layer: Layer) -> Result<(), Refusal>
+    ensures { λ r. ⌜ Cases r (λ _. asked ≤ have) (λ e. (have < asked) × (code e ≡ short kind (asked - have) layer)) ⌝ }
+{
+    if have < asked {
+        return Err(Refusal::Short(Shortage {
+            kind,
+            lacking: asked - have,
+            layer,
+        }));
+    }
+    Ok(())
 }
 
 // A source stands for a seat and, of each kind, the list of halves not yet drawn.

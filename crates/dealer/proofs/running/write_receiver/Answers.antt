@@ -15,11 +15,10 @@ returns c =
     let k = c .args .kind in
     let x = c .args .x in
     let room : 2 ≤ length (c .args .words .now) = omega arith in
-    let last : c .ahead-last .result ≡ run (entries k + 2) x = c .ahead-last .ensures ∙ ap (λ n. run (n + 2) x) (c .entries .ensures) in
-    let chosen : c .choice-of-choice .result ≡ choice k x = c .choice-of-choice .ensures .is ∙ ap (λ y. y / 2 ^ choice-low k) last in
-    let masked : c .mask-of-mask .result ≡ mask k x (choice k x) = c .mask-of-mask .ensures ∙ ap (λ y. y / 2 ^ mask-low k) (c .ahead .ensures ∙ ap (λ n. run (n + 1) x) chosen) in
+    let chosen : c .choice-of-choice .result ≡ choice k x = c .choice-of-choice .ensures .is ∙ ap (λ y. y / 2 ^ choice-low k) (c .after-last .ensures) in
+    let masked : c .mask-at-mask .result ≡ mask k x (choice k x) = c .mask-at-mask .ensures ∙ ap (mask k x) chosen in
     record {
-      after = last;
-      front = two-front (c .args .words .now) (c .choice-of-choice .result) (c .mask-of-mask .result) room ∙ ap₂ (λ a b. a ∷ b ∷ []) chosen masked;
+      after = c .after-last .ensures;
+      front = two-front (c .args .words .now) (c .choice-of-choice .result) (c .mask-at-mask .result) room ∙ ap₂ (λ a b. a ∷ b ∷ []) chosen masked;
       past = search (needs, drop-set-lt);
     }

@@ -1,17 +1,15 @@
-use mathlib.Core.Path.{_≡_, ap, subst, _∙_}
+use mathlib.Core.Path.{_≡_, sym, subst, _∙_}
 use Prim.Native.Nat.{_<_}
+use borrow.Author.Tests.{ltb-true}
 use lib.ListN.{length}
-use Rattle.refusal.specs.Kinds.{kind-of}
 use Rattle.refusal.specs.PerKinds.{at}
 use Rattle.sources.proofs.Limits.{below-answers}
 use Rattle.sources.proofs.quota.QuotaSource.afford.Needs as need
 
-pub returns-in-Err : need.returns-in-Err
-returns-in-Err g c =
+pub returns-then-is-short-below : need.returns-then-is-short-below
+returns-then-is-short-below g c =
     let s = c .args .self .now in
     let left = g .S·Source .left (s .below) in
-    let k = kind-of (c .args .kind) in
-    let some = c .in-Some .ensures tt in
-    let number : c .get-number .result ≡ at (s .allowed) k = c .get-number .ensures ∙ ap (at (s .allowed)) (some .1) in
-    let fewer : length (left k) < at (s .allowed) k = subst (λ m. length (left k) < m) number (c .in-Err .ensures tt .fewer (some .0)) in
-    below-answers (s .allowed) left (g .S·Source .layer (s .below)) (c .args .kind) (c .args .count) (c .afford-in-Err .result) fewer (c .afford-in-Err .ensures)
+    let fewer = ltb-true _ _ (sym (c .is-short-below .ensures) ∙ c .if-is-short-below .taken) in
+    below-answers (s .allowed) left (g .S·Source .layer (s .below)) (c .args .kind) (c .args .count) (c .afford .result)
+    (subst (λ k. length (left k) < at (s .allowed) k) (c .in-Some .ensures tt .1) fewer) (c .afford .ensures)

@@ -1,6 +1,5 @@
 // Refusals as programs print them: the number, and then the values.
 use crate::refusal::Refusal;
-use crate::refusal::RefusalDebug;
 use std::error::Error;
 use std::fmt;
 
@@ -13,6 +12,12 @@ pub impl fmt::Display for Refusal as RefusalDisplay {
             write!(f, " {v}")?;
         }
         Ok(())
+    }
+}
+
+pub impl fmt::Debug for Refusal as RefusalDebug {
+    fn fmt<W: fmt::Write>(&self, f: &mut fmt::Formatter<W>) -> fmt::Result {
+        write!(f, "{self}")
     }
 }
 

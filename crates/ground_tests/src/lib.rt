@@ -1,0 +1,3 @@
+// Tests of the lookup, the dealer and quotas against vectors worked out by hand or outside.
+#[cfg(test)]
+mod tests;
