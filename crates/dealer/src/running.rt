@@ -8,7 +8,7 @@ ghost use Rattle.sources.specs.Halves.{width as widthOf};
 use refusal::kind::Kind;
 
 // The running number that follows.
-pub fn next(x: u64) -> u64
+fn next(x: u64) -> u64
     ensures { λ r. ⌜ r ≡ step x ⌝ }
 {
     6364136223846793005u64
@@ -17,7 +17,7 @@ pub fn next(x: u64) -> u64
 }
 
 // The running number `n` fields on.
-pub fn ahead(x: u64, n: u32) -> u64
+fn ahead(x: u64, n: u32) -> u64
     ensures { λ r. ⌜ r ≡ run n x ⌝ }
 {
     let mut y = x;
@@ -28,7 +28,7 @@ pub fn ahead(x: u64, n: u32) -> u64
 }
 
 // The mask or the blind that a running number gives: its top 2 or 32 bits.
-pub fn mask_of(kind: Kind, x: u64) -> u32
+fn mask_of(kind: Kind, x: u64) -> u32
     ensures { λ r. ⌜ r ≡ x / 2 ^ maskLow kind ⌝ }
 {
     match kind {
@@ -39,7 +39,7 @@ pub fn mask_of(kind: Kind, x: u64) -> u32
 }
 
 // The choice that a running number gives: its top 4 or 2 bits.
-pub fn choice_of(kind: Kind, x: u64) -> u32
+fn choice_of(kind: Kind, x: u64) -> u32
     ensures is { λ r. ⌜ r ≡ x / 2 ^ choiceLow kind ⌝ }
     ensures low { λ r. ⌜ r < 16 ⌝ }
 {
@@ -103,7 +103,7 @@ fn write_receiver(kind: Kind, x: u64, words: &mut [u32]) -> u64
 
 // Writes a seat's half of a correlation in front of the words, and answers the running number that
 // follows the whole correlation.
-pub fn write_half(seat: u8, kind: Kind, x: u64, words: &mut [u32]) -> u64
+pub(crate) fn write_half(seat: u8, kind: Kind, x: u64, words: &mut [u32]) -> u64
     requires { ⌜ 17 ≤ length (now words) ⌝ }
     ensures after { λ r. ⌜ r ≡ run (entries kind + 2) x ⌝ }
     ensures front { λ _. ⌜ take (widthOf seat kind) (now (words .exit)) ≡ halfOf seat kind x ⌝ }

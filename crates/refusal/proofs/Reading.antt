@@ -14,7 +14,7 @@ kind-of-number Bit = refl
 kind-of-number Ring0 = refl
 kind-of-number Ring1 = refl
 
-apart : (j k : Kind) → (number j ≡ number k → ⊥) → j ≡ k → ⊥
+pub apart : (j k : Kind) → (number j ≡ number k → ⊥) → j ≡ k → ⊥
 apart j k ne e = ne (ap number e)
 
 pub same-kind : (j k : Kind) → (j ≡ k) ⊎ (j ≡ k → ⊥)

@@ -1,0 +1,8 @@
+pub mod Bits
+pub mod Layout
+pub mod Theorems
+pub mod Places
+pub mod Ranges
+pub mod Sheets
+pub mod Pens
+pub mod Writing
