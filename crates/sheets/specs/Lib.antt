@@ -4,5 +4,3 @@ pub mod Theorems
 pub mod Places
 pub mod Ranges
 pub mod Sheets
-pub mod Pens
-pub mod Writing

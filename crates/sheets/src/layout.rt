@@ -32,7 +32,7 @@ fn choice_size(kind: Kind) -> u32
 }
 
 // How many bits field `i` of a seat's half has.
-pub(crate) fn field_size(seat: u8, kind: Kind, i: usize) -> u32
+pub fn field_size(seat: u8, kind: Kind, i: usize) -> u32
     ensures is { λ r. ⌜ r ≡ fieldSize seat kind i ⌝ }
     ensures most { λ r. ⌜ r ≤ 32 ⌝ }
 {
@@ -44,7 +44,7 @@ pub(crate) fn field_size(seat: u8, kind: Kind, i: usize) -> u32
 }
 
 // How many bits a seat's half has.
-pub(crate) fn half_size(seat: u8, kind: Kind) -> u32
+pub fn half_size(seat: u8, kind: Kind) -> u32
     ensures is { λ r. ⌜ r ≡ halfSize seat kind ⌝ }
     ensures some { λ r. ⌜ 0 < r ⌝ }
     ensures most { λ r. ⌜ r ≤ 160 ⌝ }

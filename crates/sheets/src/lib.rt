@@ -1,6 +1,4 @@
-// Deal sheets: a party's halves packed in bits, read where they lie, and written from any source.
-mod layout;
-mod pen;
+// Deal sheets: a party's halves packed in bits, read where they lie.
+pub mod layout;
 pub mod sheet;
 pub mod theorems;
-pub mod writer;

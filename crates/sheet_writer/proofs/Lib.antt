@@ -1,0 +1,3 @@
+pub mod Counts
+pub mod Strokes
+pub mod Writing

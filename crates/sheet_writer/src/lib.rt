@@ -1,0 +1,3 @@
+// Writing deal sheets: any source drained into the caller's bytes.
+mod pen;
+pub mod writer;
