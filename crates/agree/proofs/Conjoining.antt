@@ -1,7 +1,7 @@
 -- One lookup over fitting halves gives the "and" of the two bits.
 use mathlib.Core.Path.{_≡_, refl, sym, ap, ap₂, subst, _∙_}
 use mathlib.Core.Bool.{Bool, true, false, _&&_}
-use mathlib.Core.List.{List, [], _∷_}
+use mathlib.Core.List.{[], _∷_}
 use Prim.Native.Nat.{ℕ, zero, suc, _+_, _*_, _%_, _<_}
 use native.Mathlib.Nat.{mod-lt}
 use native.Mathlib.Omega.{arith}
@@ -12,7 +12,7 @@ use lib.ListN.{getD}
 use Rattle.std.specs.shelf.Lists.{All, Each}
 use Rattle.refusal.specs.declared.kind.Kind.{Kind}
 use Rattle.refusal.specs.declared.kind.Kind.the-variants.{Bit, Ring0, Ring1}
-use Rattle.refusal.specs.Kinds.{number}
+use Rattle.refusal.proofs.Reading.{ring0-bit, ring1-bit}
 use Rattle.lookup.specs.Groups.{xor}
 use Rattle.lookup.specs.Lookup.{Sender, Receiver, Sender-sound, Receiver-sound, Fit, Table-in, entry-of, request, words, sender-share, receiver-share}
 use Rattle.lookup.proofs.Instances.{xor-laws}
@@ -96,12 +96,6 @@ conjoined a b s r e S R F asked answered first second =
     ∙ ap (λ m. m % 2) (xor-comm u v ∙ joined ∙ entry-is a b)
     ∙ result-bit a b
 
-ring0-apart : Ring0 ≡ Bit → ⊥
-ring0-apart e = let z = ap number e in omega arith
-
-ring1-apart : Ring1 ≡ Bit → ⊥
-ring1-apart e = let z = ap number e in omega arith
-
 -- the lists after one half of kind `Bit` is drawn at each seat
 module _ (s s′ r r′ : Halves) (h t : Half) (sent : s Bit ≡ h ∷ s′ Bit) (sought : r Bit ≡ t ∷ r′ Bit)
     (others : (j : Kind) → (j ≡ Bit → ⊥) → s′ j ≡ s j) (others′ : (j : Kind) → (j ≡ Bit → ⊥) → r′ j ≡ r j) where
@@ -110,8 +104,8 @@ module _ (s s′ r r′ : Halves) (h t : Half) (sent : s Bit ≡ h ∷ s′ Bit)
 
   left-lawful : Lawful s r → Lawful s′ r′
   left-lawful law Bit = first-fits law .1
-  left-lawful law Ring0 = rw (others Ring0 (λ e. ring0-apart e), others′ Ring0 (λ e. ring0-apart e)) (law Ring0)
-  left-lawful law Ring1 = rw (others Ring1 (λ e. ring1-apart e), others′ Ring1 (λ e. ring1-apart e)) (law Ring1)
+  left-lawful law Ring0 = rw (others Ring0 ring0-bit, others′ Ring0 ring0-bit) (law Ring0)
+  left-lawful law Ring1 = rw (others Ring1 ring1-bit, others′ Ring1 ring1-bit) (law Ring1)
 
   pub agreed : (seat seat′ : ℕ) (a b : Shares) (e : Exchange) → All (In-range seat Bit) (s Bit) → All (In-range seat′ Bit) (r Bit)
       → Exchanged h t a b e → Agreed seat seat′ s s′ r r′ a b e

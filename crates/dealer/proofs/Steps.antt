@@ -1,5 +1,5 @@
 -- Laws of the running number and of what is dealt from it.
-use mathlib.Core.Path.{_≡_, refl, sym, ap, ap₂, subst, _∙_}
+use mathlib.Core.Path.{_≡_, refl, sym, ap, ap₂, _∙_}
 use mathlib.Core.Bool.{Bool, cond}
 use mathlib.Core.List.{List, [], _∷_}
 use Prim.Native.Nat.{ℕ, zero, suc, _+_, _-_, _%_, _^_, _≤_, _<_}
@@ -15,7 +15,7 @@ use Rattle.refusal.specs.PerKinds.{at, with-at}
 use Rattle.refusal.proofs.Reading.{at-with-same, at-with-other}
 use Rattle.lookup.specs.Lookup.{Fit}
 use Rattle.lookup.specs.Halves.{sender-from, receiver-from}
-use Rattle.sources.specs.Halves.{Half, Halves, width, Fits}
+use Rattle.sources.specs.Halves.{Halves, width, Fits}
 use Rattle.sources.specs.Calls.{Drew}
 use Rattle.dealer.specs.Running.{step, run, mask, choice, sender-half, receiver-half, half, dealt}
 use Rattle.dealer.specs.Ranges.{choice-lt, mask-at}

@@ -1,7 +1,7 @@
 -- Every field that a dealer deals is in range: what it shows as a source.
 use mathlib.Core.Path.{_≡_, refl, sym, ap, subst, _∙_}
 use mathlib.Core.Bool.{true, false, cond}
-use mathlib.Core.List.{List, [], _∷_, map}
+use mathlib.Core.List.{map}
 use Prim.Native.Nat.{ℕ, zero, suc, _+_, _-_, _*_, _/_, _^_, _<_}
 use native.Mathlib.Nat.{mod-lt}
 use native.Mathlib.Omega.{arith}
@@ -15,7 +15,6 @@ use Rattle.std.proofs.shelf.Counted.{length-map-counting, getD-map-counting, ta
 use Rattle.refusal.specs.declared.kind.Kind.{Kind}
 use Rattle.refusal.specs.declared.kind.Kind.the-variants.{Bit, Ring0, Ring1}
 use Rattle.refusal.specs.Kinds.{entries}
-use Rattle.lookup.specs.Lookup.{Sender-sound}
 use Rattle.lookup.specs.Halves.{sender-from}
 use Rattle.sources.specs.Halves.{Half, operation, sends, Sender-in-range, Receiver-in-range, In-range}
 use Rattle.dealer.specs.Running.{step, run, mask-low, choice-low, mask, choice, sender-half, receiver-half, half, dealt}

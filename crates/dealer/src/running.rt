@@ -1,6 +1,6 @@
 // The running number of a dealer, and the fields that it gives.
 ghost use mathlib.Core.Path.{_≡_};
-ghost use Prim.Native.Nat.{ℕ, _+_, _/_, _^_, _<_, _≤_};
+ghost use Prim.Native.Nat.{_+_, _/_, _^_, _<_, _≤_};
 ghost use lib.ListN.{length, take, drop};
 ghost use Rattle.refusal.specs.Kinds.{entries};
 ghost use Rattle.dealer.specs.Running.{step, run, mask-low as maskLow, choice-low as choiceLow, mask as maskOf, sender-half as senderHalf, receiver-half as receiverHalf, half as halfOf};

@@ -1,5 +1,4 @@
 -- The engine's two operations have the laws of a group.
-use Prim.Native.Nat.{ℕ}
 use native.Mathlib.Omega.{arith}
 use lib.Bits.{xor-lt, xor-assoc, xor-self, xor-zero-l, xor-zero-r}
 use Rattle.lookup.specs.Groups.{Laws, xor, add}

@@ -8,7 +8,7 @@ use Rattle.std.specs.Iters.{counting}
 use Rattle.std.proofs.shelf.Counted.{length-map-counting, getD-map-counting, fill-by-all}
 use Rattle.lookup.specs.Once.{Exactly-one}
 use Rattle.lookup.specs.Groups.{Operation, Laws}
-use Rattle.lookup.specs.Lookup.{Sender, Receiver, Sender-sound, Receiver-sound, Fit, Table-in, minus, request, word, words, sender-share, receiver-share}
+use Rattle.lookup.specs.Lookup.{Sender, Receiver, Sender-sound, Receiver-sound, Fit, Table-in, minus, request, word, words}
 use Rattle.lookup.specs.Theorems.{Shares-join, Table-hidden, Index-hidden}
 use Rattle.lookup.proofs.Places.{minus-below, minus-minus, plus, plus-below, plus-minus, minus-plus, plus-request}
 use Rattle.lookup.proofs.Cancel.{undo-right, redo-right, undo-left, redo-left}

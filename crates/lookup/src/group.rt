@@ -1,6 +1,5 @@
 // The group that masks join in: its laws, and the two groups of the engine.
 ghost use mathlib.Core.Path.{_≡_};
-ghost use Prim.Native.Nat.{ℕ};
 ghost use Rattle.lookup.specs.Groups.{Operation, Laws, xor, add};
 
 // Words that join by an operation with the laws of a group. The order of the two may matter.

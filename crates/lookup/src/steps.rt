@@ -1,7 +1,7 @@
 // The steps of a lookup: the receiver's word, the sender's words, and the two shares.
 ghost use mathlib.Core.Path.{_≡_};
 ghost use mathlib.Core.List.{map};
-ghost use Prim.Native.Nat.{ℕ, _<_, _^_};
+ghost use Prim.Native.Nat.{_<_, _^_};
 ghost use lib.ListN.{length};
 ghost use Rattle.std.specs.Iters.{counting};
 ghost use Rattle.lookup.specs.Lookup.{minus as back, entry-of as entryOf, request as requestOf, word as wordOf, sender-share as senderShare, receiver-share as receiverShare};

@@ -1,6 +1,6 @@
 // The three kinds of correlation: how many entries a table has, and which seat sends.
 ghost use mathlib.Core.Path.{_≡_};
-ghost use Prim.Native.Nat.{ℕ, _<_};
+ghost use Prim.Native.Nat.{_<_};
 ghost use Rattle.std.specs.Options.{Cases};
 ghost use Rattle.refusal.specs.Kinds.{number, kind-of as kindOf, entries, sender};
 

@@ -1,29 +1,26 @@
 -- What draining a source writes: one half, a list of them, and the whole sheet.
-use mathlib.Core.Path.{_≡_, refl, sym, ap, ap₂, subst, _∙_}
+use mathlib.Core.Path.{_≡_, sym, ap, ap₂, subst, _∙_}
 use mathlib.Core.List.{List, [], _∷_, _++_, append-assoc, append-nil}
-use Prim.Native.Nat.{ℕ, zero, suc, _+_, _-_, _*_, _/_, _≤_, _<_}
+use Prim.Native.Nat.{ℕ, _+_, _-_, _*_, _/_, _≤_, _<_}
 use native.Mathlib.Nat.{add-mul, one-mul}
 use native.Mathlib.Omega.{arith}
 use lib.ListN.{length, take, drop, getD, replicate}
-use Rattle.std.specs.declared.option.Option.the-variants.{Some}
 use Rattle.std.specs.shelf.Lists.{All}
-use Rattle.std.proofs.shelf.Lists.{take-more, take-all, drop-drop, drop-all, getD-drop}
+use Rattle.std.proofs.shelf.Lists.{take-more, getD-drop}
 use Rattle.refusal.specs.declared.kind.Kind.{Kind}
 use Rattle.refusal.specs.declared.kind.Kind.the-variants.{Bit, Ring0, Ring1}
 use Rattle.refusal.specs.declared.per_kind.PerKind.{PerKind}
 use Rattle.refusal.specs.Kinds.{kind-of}
 use Rattle.refusal.specs.PerKinds.{at}
-use Rattle.refusal.proofs.Reading.{apart}
 use Rattle.sources.specs.Halves.{Half, Halves, In-range}
 use Rattle.sources.specs.Calls.{Drew}
 use Rattle.sheet_writer.specs.declared.pen.Pen.{Pen}
 use Rattle.sheets.specs.Bits.{bits, bits-of}
-use Rattle.sheets.specs.Layout.{Sheet, half-size, field-size, row-bits, list-bits, encode, decode}
-use Rattle.sheets.specs.Theorems.{Sheetable, Is-sheet}
+use Rattle.sheets.specs.Layout.{half-size, field-size, row-bits, list-bits, encode}
 use Rattle.sheet_writer.specs.Pens.{written, place, Fresh, Pushed, Finished}
 use Rattle.sheet_writer.specs.Writing.{bits-needed, header-bits, body-bits, sheet-length, Counted, Wrote}
 use Rattle.sheets.proofs.Undoing.{decode-undoes-encode}
-use Rattle.sheet_writer.proofs.Strokes.{pushed-then, pushed-as, drop-on}
+use Rattle.sheet_writer.proofs.Strokes.{drop-on}
 
 -- what a draw of the kind with the number m says of the kind
 module _ (left left′ : Halves) (seat m : ℕ) (k : Kind) (ws ws′ : List ℕ) (n : ℕ) (is : kind-of m ≡ k) (d : Drew seat left left′ m ws ws′ n) where
@@ -61,25 +58,6 @@ product-more i s = add-mul i 1 s ∙ ap (λ x. i * s + x) (one-mul s)
 -- nothing stands written at a fresh pen
 pub written-fresh : (p : Pen) (xs : List ℕ) → Fresh p → written p xs ≡ []
 written-fresh p xs f = ap₂ (λ a n. bits-of (take a xs) ++ bits n (p .current)) (f .at-start) (f .none-filled)
-
--- the kinds are apart
-pub ring0-bit : Ring0 ≡ Bit → ⊥
-ring0-bit = apart Ring0 Bit (λ e. omega arith)
-
-pub ring1-bit : Ring1 ≡ Bit → ⊥
-ring1-bit = apart Ring1 Bit (λ e. omega arith)
-
-pub ring1-ring0 : Ring1 ≡ Ring0 → ⊥
-ring1-ring0 = apart Ring1 Ring0 (λ e. omega arith)
-
-pub ring0-ring1 : Ring0 ≡ Ring1 → ⊥
-ring0-ring1 = apart Ring0 Ring1 (λ e. omega arith)
-
-pub bit-ring0 : Bit ≡ Ring0 → ⊥
-bit-ring0 = apart Bit Ring0 (λ e. omega arith)
-
-pub bit-ring1 : Bit ≡ Ring1 → ⊥
-bit-ring1 = apart Bit Ring1 (λ e. omega arith)
 
 -- the parts of a sheet
 pub parts : (seat : ℕ) (g : Halves) (counts : PerKind ℕ) → Counted g counts → header-bits seat counts ++ body-bits seat g ≡ encode seat g

@@ -1,7 +1,7 @@
 -- What stands written at a pen, and what its strokes add.
 use mathlib.Core.Path.{_≡_}
 use mathlib.Core.List.{List, _++_}
-use Prim.Native.Nat.{ℕ, _+_, _*_, _≤_, _<_}
+use Prim.Native.Nat.{ℕ, _+_, _*_, _<_}
 use lib.ListN.{length, take, drop, replicate}
 use Rattle.sheet_writer.specs.declared.pen.Pen.{Pen}
 use Rattle.sheets.specs.Bits.{bits, bits-of}

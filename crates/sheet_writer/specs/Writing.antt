@@ -1,7 +1,6 @@
 -- What writing a sheet does to the source and to the bytes.
 use mathlib.Core.Path.{_≡_}
 use mathlib.Core.List.{List, [], _++_}
-use mathlib.Core.Logic.{_⊎_}
 use Prim.Native.Nat.{ℕ, _+_, _*_, _/_, _≤_, _<_}
 use lib.ListN.{length, take, drop}
 use Rattle.std.specs.declared.option.Option.the-variants.{Some}
@@ -13,7 +12,7 @@ use Rattle.refusal.specs.PerKinds.{at}
 use Rattle.refusal.specs.Refusals.{code, plain}
 use Rattle.sources.specs.Halves.{Halves}
 use Rattle.sheets.specs.Bits.{bits}
-use Rattle.sheets.specs.Layout.{Sheet, half-size, field-size, list-bits, decode}
+use Rattle.sheets.specs.Layout.{half-size, field-size, list-bits, decode}
 
 -- how many bits a sheet with these counts has
 abbrev pub bits-needed : ℕ → PerKind ℕ → ℕ

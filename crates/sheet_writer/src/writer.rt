@@ -1,11 +1,10 @@
 // Writing the sheet of any source into the caller's bytes.
 ghost use mathlib.Core.Path.{_≡_};
 ghost use mathlib.Core.List.{[]};
-ghost use Prim.Native.Nat.{ℕ, _+_, _*_, _^_, _<_, _≤_};
+ghost use Prim.Native.Nat.{_+_, _*_, _<_, _≤_};
 ghost use lib.ListN.{length, getD, drop};
 ghost use Rattle.std.specs.Results.{Cases};
 ghost use Rattle.refusal.specs.declared.kind.Kind.{Kind as KindOf};
-ghost use Rattle.refusal.specs.PerKinds.{at};
 ghost use Rattle.refusal.specs.Refusals.{code, plain};
 ghost use Rattle.sheets.specs.Layout.{half-size as halfSize, field-size as fieldSize, row-bits as rowBits, list-bits as listBits};
 ghost use Rattle.sheet_writer.specs.Pens.{written as writtenAt, place as placeOf, Pushed};

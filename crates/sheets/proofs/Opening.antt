@@ -2,18 +2,17 @@
 use mathlib.Core.Path.{_≡_, refl, sym, ap, ap₂, fun-ext, _∙_}
 use mathlib.Core.Bool.{true, false, cond}
 use mathlib.Core.List.{List}
-use Prim.Native.Nat.{ℕ, zero, suc, _+_, _-_, _*_, _/_, _<_}
+use Prim.Native.Nat.{ℕ, _+_, _-_, _*_, _/_, _<_}
 use native.Mathlib.Nat.{mul-div-cancel}
 use native.Mathlib.Omega.{arith}
 use lib.Dec.{eqb}
-use Rattle.std.specs.declared.option.Option.{Option}
 use Rattle.std.specs.declared.option.Option.the-variants.{Some, None}
 use Rattle.std.proofs.shelf.Ways.{tells}
 use Rattle.refusal.specs.declared.kind.Kind.{Kind}
 use Rattle.refusal.specs.declared.kind.Kind.the-variants.{Bit, Ring0, Ring1}
 use Rattle.refusal.specs.declared.per_kind.PerKind.{PerKind}
 use Rattle.refusal.specs.PerKinds.{at}
-use Rattle.sheets.specs.Bits.{bits-of, read}
+use Rattle.sheets.specs.Bits.{bits-of}
 use Rattle.sheets.specs.Layout.{Sheet, half-size, halves-at, seat-of, count-of, span-of, begin-of, end-of, whole, decode}
 
 -- the number of a seat by whether it is 1

@@ -1,13 +1,13 @@
 -- Lists of bits: where one list lies in another, and what is read there.
 use mathlib.Core.Path.{_≡_, refl, sym, ap, ap₂, _∙_}
-use mathlib.Core.List.{List, [], _∷_, _++_}
+use mathlib.Core.List.{List, _∷_, _++_}
 use Prim.Native.Nat.{ℕ, zero, suc, _+_, _*_, _/_, _%_, _^_, _<_, _≤_}
 use native.Mathlib.Nat.{pow-suc, mul-assoc, mod-eq-of-lt}
 use native.Mathlib.Omega.{arith}
 use lib.ListN.{length, getD, replicate}
 use Rattle.std.proofs.shelf.Lists.{length-append, length-replicate, getD-append-left, getD-append-add, getD-replicate}
 use Rattle.std.proofs.shelf.Bits.{mod-pow-add}
-use Rattle.sheets.specs.Bits.{bits, bits-of, read}
+use Rattle.sheets.specs.Bits.{bits, read}
 
 -- xs lies in bs from the place p on
 abbrev pub Lies : List ℕ → ℕ → List ℕ → Type 0
@@ -35,10 +35,6 @@ lies-tail bs p x xs l i h = let at : p + 1 + i ≡ p + suc i = omega arith in ap
 pub length-bits : (n x : ℕ) → length (bits n x) ≡ n
 length-bits zero x = refl
 length-bits (suc n) x = ap suc (length-bits n x)
-
-pub length-bits-of : (bs : List ℕ) → length (bits-of bs) ≡ 8 * length bs
-length-bits-of [] = refl
-length-bits-of (b ∷ bs) = omega (arith, length-append (bits 8 b) (bits-of bs), length-bits 8 b, length-bits-of bs)
 
 -- reading by the first bit in place of the last
 doubled : (a r s d t n : ℕ) → r ≡ a * 2 ^ n + s → d ≡ t → 2 * r + d ≡ a * 2 ^ suc n + (2 * s + t)

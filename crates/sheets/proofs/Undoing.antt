@@ -18,8 +18,10 @@ use Rattle.refusal.specs.Kinds.{entries}
 use Rattle.sources.specs.Halves.{Half, Halves, In-range, Sender-in-range, Receiver-in-range, operation, sends, width}
 use Rattle.sheets.specs.Bits.{bits, bits-of, read}
 use Rattle.sheets.specs.Layout.{mask-size, choice-size, field-size, half-size, row-bits, list-bits, encode, row-at, halves-at, seat-of, count-of, span-of, begin-of, end-of, whole, decode}
+use Rattle.sheets.specs.Places.{bits-of-long}
+use Rattle.sheets.specs.Ranges.{mask-limit, choice-limit}
 use Rattle.sheets.specs.Theorems.{Sheetable, Is-sheet, Decode-undoes-encode}
-use Rattle.sheets.proofs.Reading.{Lies, lies-all, lies-left, lies-right, length-bits, length-bits-of, read-number, read-zeros}
+use Rattle.sheets.proofs.Reading.{Lies, lies-all, lies-left, lies-right, length-bits, read-number, read-zeros}
 
 -- every field of a row has room, the first of which is field i
 abbrev pub Row-in : (ℕ → ℕ) → ℕ → List ℕ → Type 0
@@ -47,17 +49,6 @@ length-row m i (x ∷ xs) =
     let e : suc (length xs) * m ≡ m + length xs * m = omega arith in
     omega (arith, length-append (bits m x) (row-bits (λ _. m) (i + 1) xs), length-bits m x, length-row m (i + 1) xs)
 
--- the sizes are those of the ranges
-pub mask-room : (k : Kind) → operation k .size ≡ 2 ^ mask-size k
-mask-room Bit = refl
-mask-room Ring0 = refl
-mask-room Ring1 = refl
-
-pub choice-room : (k : Kind) → entries k ≡ 2 ^ choice-size k
-choice-room Bit = refl
-choice-room Ring0 = refl
-choice-room Ring1 = refl
-
 -- the size of fields, by whether the seat sends
 abbrev sizes : Bool → Kind → ℕ → ℕ
 sizes b k i = cond b (mask-size k) (cond (eqb i 0) (choice-size k) (mask-size k))
@@ -75,8 +66,8 @@ sender-room k h r j l =
     elim (cases-lt j (entries k)) [ inl s ↦ inner s | inr s ↦ outer s ]
 
 receiver-room : (k : Kind) (h : Half) → Receiver-in-range k h → Row-in (sizes false k) 0 h
-receiver-room k h r zero l = subst (λ x. getD h 0 0 < x) (choice-room k) (r .sound .choice-in)
-receiver-room k h r (suc zero) l = subst (λ x. getD h 1 0 < x) (mask-room k) (r .sound .mask-in)
+receiver-room k h r zero l = subst (λ x. getD h 0 0 < x) (sym (choice-limit k)) (r .sound .choice-in)
+receiver-room k h r (suc zero) l = subst (λ x. getD h 1 0 < x) (sym (mask-limit k)) (r .sound .mask-in)
 receiver-room k h r (suc (suc j)) l = absurd (let z : ⊥ = omega arith in z)
 
 receiver-long : (k : Kind) (h : Half) → length h ≡ 2 → length (row-bits (sizes false k) 0 h) ≡ choice-size k + mask-size k
@@ -89,7 +80,7 @@ receiver-long k (x ∷ y ∷ v ∷ vs) e = absurd (let z : ⊥ = omega arith in 
 row-fits : (b : Bool) (k : Kind) (h : Half) → When b (Sender-in-range k h) (Receiver-in-range k h) → Row-fits b k h
 row-fits true k h r = record {
   wide = r .long;
-  room = λ j l. subst (λ x. getD h j 0 < x) (mask-room k) (sender-room k h r j l);
+  room = λ j l. subst (λ x. getD h j 0 < x) (sym (mask-limit k)) (sender-room k h r j l);
   long = length-row (mask-size k) 0 h ∙ ap (λ n. n * mask-size k) (r .long);
 }
 row-fits false k h r = record { wide = r .long; room = receiver-room k h r; long = receiver-long k h (r .long) }
@@ -220,7 +211,7 @@ module _ (seat : ℕ) (g : Halves) (bytes : List ℕ) (fit : Sheetable seat g) (
 
   -- the bytes are as many as the counts ask for, and the filling is zero
   pub length-is : 8 * length bytes ≡ end + is .filling
-  length-is = sym (length-bits-of bytes) ∙ placed .whole-length ∙ ap (λ n. end + n) (length-replicate {A = ℕ} (is .filling) 0)
+  length-is = sym (bits-of-long bytes) ∙ placed .whole-length ∙ ap (λ n. end + n) (length-replicate {A = ℕ} (is .filling) 0)
 
   bytes-are : (e e′ n f : ℕ) → e′ ≡ e → f < 8 → 8 * n ≡ e + f → (n ≡ (e′ + 7) / 8) × (8 * n - e′ ≡ f)
   bytes-are e e′ n f p l q = omega arith

@@ -1,5 +1,4 @@
 -- The layout of a deal sheet, as a list of bits: written by `encode`, and read by `decode`.
-use mathlib.Core.Path.{_≡_}
 use mathlib.Core.Bool.{Bool, cond, _&&_}
 use mathlib.Core.List.{List, [], _∷_, _++_}
 use Prim.Native.Nat.{ℕ, zero, suc, _+_, _-_, _*_, _/_}

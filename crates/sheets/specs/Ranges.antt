@@ -1,21 +1,20 @@
 -- Every field that is read from a sheet is in range: what a sheet shows as a source.
 use mathlib.Core.Path.{_≡_, refl, sym, ap, subst, _∙_}
 use mathlib.Core.Bool.{Bool, true, false, cond}
-use mathlib.Core.List.{List, [], _∷_}
-use Prim.Native.Nat.{ℕ, zero, suc, _+_, _-_, _/_, _%_, _^_, _≤_, _<_}
+use mathlib.Core.List.{List}
+use Prim.Native.Nat.{ℕ, zero, suc, _+_, _-_, _^_, _<_}
 use native.Mathlib.Omega.{arith}
 use lib.Dec.{eqb}
-use lib.ListN.{length, getD, take}
+use lib.ListN.{length, getD}
 use Rattle.std.specs.Orderings.{When}
 use Rattle.std.specs.shelf.Lists.{All}
 use Rattle.std.proofs.shelf.Lists.{length-take-le, getD-take}
 use Rattle.refusal.specs.declared.kind.Kind.{Kind}
 use Rattle.refusal.specs.declared.kind.Kind.the-variants.{Bit, Ring0, Ring1}
 use Rattle.refusal.specs.Kinds.{entries}
-use Rattle.lookup.specs.Halves.{sender-from, receiver-from}
-use Rattle.sources.specs.Halves.{Half, operation, sends, width, Sender-in-range, Receiver-in-range, In-range}
+use Rattle.sources.specs.Halves.{Half, operation, sends, Sender-in-range, Receiver-in-range, In-range}
 use Rattle.sheets.specs.Bits.{bits-of, read}
-use Rattle.sheets.specs.Layout.{mask-size, choice-size, field-size, half-size, row-at, halves-at}
+use Rattle.sheets.specs.Layout.{mask-size, choice-size, half-size, row-at, halves-at}
 use Rattle.sheets.specs.Places.{read-low}
 
 row-long : (bs : List ℕ) (size : ℕ → ℕ) (p i n : ℕ) → length (row-at bs size p i n) ≡ n
@@ -27,12 +26,13 @@ row-below bs size limit f p i zero j h = absurd (omega arith)
 row-below bs size limit f p i (suc n) zero h = f p i
 row-below bs size limit f p i (suc n) (suc j) h = row-below bs size limit f (p + size i) (i + 1) n j (omega arith)
 
-mask-limit : (k : Kind) → 2 ^ mask-size k ≡ operation k .size
+-- the sizes of fields are those of the ranges
+pub mask-limit : (k : Kind) → 2 ^ mask-size k ≡ operation k .size
 mask-limit Bit = refl
 mask-limit Ring0 = refl
 mask-limit Ring1 = refl
 
-choice-limit : (k : Kind) → 2 ^ choice-size k ≡ entries k
+pub choice-limit : (k : Kind) → 2 ^ choice-size k ≡ entries k
 choice-limit Bit = refl
 choice-limit Ring0 = refl
 choice-limit Ring1 = refl

@@ -12,7 +12,7 @@ use Rattle.refusal.specs.Refusals.{code, plain}
 use Rattle.sources.specs.Halves.{Halves}
 use Rattle.sheets.specs.declared.sheet.SheetSource.{SheetSource}
 use Rattle.sheets.specs.Bits.{bits-of}
-use Rattle.sheets.specs.Layout.{Sheet, half-size, halves-at, decode}
+use Rattle.sheets.specs.Layout.{half-size, halves-at, decode}
 
 abbrev pub sheet-owner : SheetSource → ℕ
 sheet-owner s = cond (s .second) 1 0

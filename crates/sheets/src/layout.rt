@@ -1,8 +1,7 @@
 // Sizes of fields and halves, and numbers read out of a sheet's bits.
 ghost use mathlib.Core.Path.{_≡_};
-ghost use Prim.Native.Nat.{ℕ, _+_, _-_, _*_, _/_, _%_, _^_, _<_, _≤_};
+ghost use Prim.Native.Nat.{_+_, _-_, _*_, _/_, _%_, _^_, _<_, _≤_};
 ghost use lib.ListN.{length, getD, take, drop};
-ghost use Rattle.refusal.specs.declared.kind.Kind.{Kind as KindOf};
 ghost use Rattle.sources.specs.Halves.{width as widthOf};
 ghost use Rattle.sheets.specs.Bits.{bits-of as bitsOf, read as readOf};
 ghost use Rattle.sheets.specs.Layout.{mask-size as maskSize, choice-size as choiceSize, field-size as fieldSize, half-size as halfSize, row-at as rowAt};

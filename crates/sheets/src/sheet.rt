@@ -1,12 +1,10 @@
 // A source that reads a deal sheet out of the caller's bytes.
 ghost use mathlib.Core.Path.{_≡_};
-ghost use Prim.Native.Nat.{ℕ, _+_, _-_, _*_, _/_, _^_, _<_, _≤_};
+ghost use Prim.Native.Nat.{_+_, _-_, _*_, _/_, _^_, _<_, _≤_};
 ghost use denote.Ref.{now};
-ghost use lib.ListN.{length};
 ghost use Rattle.std.specs.Results.{Cases};
 ghost use Rattle.refusal.specs.declared.refusal.Layer.the-variants.{Sheet as SheetLayer};
 ghost use Rattle.refusal.specs.PerKinds.{at, with-at as withAt};
-ghost use Rattle.sheets.specs.Bits.{bits-of as bitsOf};
 ghost use Rattle.sheets.specs.Layout.{half-size as halfSize, whole-at as wholeAt};
 ghost use Rattle.sheets.specs.Ranges.{halves-in-range as halvesInRange};
 ghost use Rattle.sheets.specs.Sheets.{sheet-owner as sheetOwner, sheet-have as sheetHave, sheet-left as sheetLeft, Opened, Not-a-sheet as NotASheet};

@@ -1,8 +1,8 @@
 -- What a quota does, from what the source below it does.
-use mathlib.Core.Path.{_≡_, refl, sym, ap, ap₂, subst, fun-ext, _∙_}
-use mathlib.Core.Logic.{_⊎_, inl, inr}
+use mathlib.Core.Path.{_≡_, sym, ap, ap₂, subst, fun-ext, _∙_}
+use mathlib.Core.Logic.{inl, inr}
 use mathlib.Core.Bool.{cond}
-use mathlib.Core.List.{List, [], _∷_}
+use mathlib.Core.List.{List, _∷_}
 use Prim.Native.Nat.{ℕ, zero, suc, _-_, _≤_, _<_}
 use native.Mathlib.Omega.{arith}
 use borrow.Author.Tests.{lt-ltb}
@@ -13,7 +13,6 @@ use Rattle.std.proofs.shelf.Lists.{take-all}
 use Rattle.std.proofs.shelf.Ways.{tells}
 use Rattle.std.proofs.shelf.Results.{cases-weaker}
 use Rattle.refusal.specs.declared.kind.Kind.{Kind}
-use Rattle.refusal.specs.declared.kind.Kind.the-variants.{Bit, Ring0, Ring1}
 use Rattle.refusal.specs.declared.per_kind.PerKind.{PerKind}
 use Rattle.refusal.specs.declared.refusal.Layer.{Layer}
 use Rattle.refusal.specs.declared.refusal.Layer.the-variants.{Quota}

@@ -10,7 +10,7 @@ use Rattle.refusal.specs.declared.refusal.Layer.{Layer}
 use Rattle.refusal.specs.declared.refusal.Refusal.{Refusal}
 use Rattle.refusal.specs.Kinds.{kind-of}
 use Rattle.refusal.specs.Refusals.{code, plain, short}
-use Rattle.sources.specs.Halves.{Half, Halves, width}
+use Rattle.sources.specs.Halves.{Halves, width}
 
 -- `afford` accepts
 pub record Enough (left : Halves) (kind count : ℕ) : Type 0 where

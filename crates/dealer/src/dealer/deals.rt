@@ -1,6 +1,6 @@
 // What a dealer deals: it is a source, and two dealers alike are a lawful deal.
 ghost use mathlib.Core.Path.{_≡_};
-ghost use Prim.Native.Nat.{ℕ, _+_, _-_, _%_, _^_, _<_};
+ghost use Prim.Native.Nat.{_+_, _-_, _%_, _^_, _<_};
 ghost use Rattle.std.specs.Results.{Cases};
 ghost use Rattle.refusal.specs.declared.kind.Kind.{Kind as KindOf};
 ghost use Rattle.refusal.specs.Kinds.{number};

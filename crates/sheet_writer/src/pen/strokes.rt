@@ -1,7 +1,6 @@
 // Writing bits, numbers and halves with a pen.
-ghost use mathlib.Core.Path.{_≡_};
 ghost use mathlib.Core.List.{[], _∷_};
-ghost use Prim.Native.Nat.{ℕ, _+_, _*_, _<_, _≤_};
+ghost use Prim.Native.Nat.{_+_, _*_, _<_, _≤_};
 ghost use lib.ListN.{length};
 ghost use Rattle.sheets.specs.Bits.{bits as bitsAt};
 ghost use Rattle.sheets.specs.Layout.{field-size as fieldSize, row-bits as rowBits};

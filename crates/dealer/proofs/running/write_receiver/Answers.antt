@@ -1,12 +1,11 @@
-use mathlib.Core.Path.{_≡_, sym, ap, ap₂, _∙_}
+use mathlib.Core.Path.{_≡_, ap, ap₂, _∙_}
 use mathlib.Core.List.{_∷_, []}
-use Prim.Native.Nat.{_+_, _/_, _^_, _≤_}
+use Prim.Native.Nat.{_/_, _^_, _≤_}
 use native.Mathlib.Omega.{arith}
 use borrow.Author.Needs.{needs}
 use lib.ListN.{length}
 use Rattle.std.proofs.shelf.Lists.{drop-set-lt}
-use Rattle.refusal.specs.Kinds.{entries}
-use Rattle.dealer.specs.Running.{run, mask-low, choice-low, mask, choice}
+use Rattle.dealer.specs.Running.{choice-low, mask, choice}
 use Rattle.dealer.proofs.Steps.{two-front}
 use Rattle.dealer.proofs.running.write_receiver.Needs as need
 

@@ -3,7 +3,7 @@ use mathlib.Core.List.{_++_, _∷_, [], map}
 use Prim.Native.Nat.{_+_, _<_, _/_, _^_}
 use native.Mathlib.Omega.{arith}
 use borrow.Author.Needs.{needs}
-use lib.ListN.{length, take, drop}
+use lib.ListN.{length, take}
 use Rattle.std.proofs.shelf.Lists.{take-more-set, drop-set-lt}
 use Rattle.std.proofs.shelf.Counted.{map-counting-more}
 use Rattle.std.specs.Iters.{counting}

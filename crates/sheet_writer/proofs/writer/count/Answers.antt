@@ -1,9 +1,9 @@
 use mathlib.Core.Path.{_≡_, sym, ap, subst, _∙_}
-use Prim.Native.Nat.{ℕ, _-_, _<_}
+use Prim.Native.Nat.{_-_, _<_}
 use native.Mathlib.Omega.{arith}
 use lib.ListN.{length, getD}
 use Rattle.refusal.specs.Kinds.{number, kind-of}
-use Rattle.refusal.specs.Refusals.{code, layer-number}
+use Rattle.refusal.specs.Refusals.{layer-number}
 use Rattle.refusal.proofs.Reading.{kind-of-number}
 use Rattle.sheet_writer.proofs.Counts.{second-value, number-low}
 use Rattle.sheet_writer.proofs.writer.count.Needs as need

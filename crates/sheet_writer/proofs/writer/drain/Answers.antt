@@ -1,12 +1,12 @@
-use mathlib.Core.Path.{_≡_, refl, sym, ap, ap₂, subst, _∙_}
-use mathlib.Core.List.{List, [], _++_}
-use Prim.Native.Nat.{ℕ, _+_, _-_, _*_, _≤_, _<_}
+use mathlib.Core.Path.{_≡_, refl, sym, ap, _∙_}
+use mathlib.Core.List.{[], _++_}
+use Prim.Native.Nat.{_+_, _-_, _*_, _≤_, _<_}
 use native.Mathlib.Omega.{arith}
 use lib.ListN.{length, take, drop, getD}
 use Rattle.std.proofs.shelf.Lists.{length-drop, take-all, drop-all, drop-drop}
 use Rattle.std.proofs.shelf.Bits.{mul-le}
 use Rattle.sheets.specs.Layout.{half-size, field-size, row-bits, list-bits}
-use Rattle.sheet_writer.specs.Pens.{place, Pushed}
+use Rattle.sheet_writer.specs.Pens.{place}
 use Rattle.sheet_writer.proofs.Strokes.{pushed-none, pushed-then, pushed-as}
 use Rattle.sheet_writer.proofs.Writing.{list-step, product-more}
 use Rattle.sheet_writer.proofs.writer.drain.Needs as need

@@ -1,12 +1,11 @@
-use mathlib.Core.Path.{_≡_, refl, sym, ap, subst, _∙_}
+use mathlib.Core.Path.{_≡_, sym, ap, subst, _∙_}
 use mathlib.Core.List.{List, []}
-use Prim.Native.Nat.{ℕ, _+_, _-_, _*_, _≤_, _<_}
+use Prim.Native.Nat.{ℕ, _+_, _-_, _≤_, _<_}
 use native.Mathlib.Omega.{arith}
 use lib.ListN.{length, take, getD}
 use Rattle.refusal.specs.Kinds.{kind-of}
 use Rattle.refusal.proofs.Reading.{kind-of-number}
 use Rattle.sources.specs.Halves.{In-range}
-use Rattle.sources.specs.Calls.{Drew}
 use Rattle.sheets.specs.Layout.{half-size, field-size, row-bits}
 use Rattle.sheet_writer.specs.Pens.{place, Pushed}
 use Rattle.sheet_writer.proofs.Counts.{number-low}

@@ -1,14 +1,13 @@
-use mathlib.Core.Path.{_≡_, sym, ap, ap₂, _∙_}
-use mathlib.Core.List.{List, [], _++_}
-use Prim.Native.Nat.{_+_, _*_, _≤_}
+use mathlib.Core.Path.{_≡_, sym, ap, _∙_}
+use mathlib.Core.List.{[], _++_}
+use Prim.Native.Nat.{_+_}
 use native.Mathlib.Omega.{arith}
 use lib.ListN.{length}
 use Rattle.refusal.specs.declared.kind.Kind.{Kind}
 use Rattle.refusal.specs.declared.kind.Kind.the-variants.{Bit, Ring0, Ring1}
-use Rattle.sheets.specs.Layout.{half-size, field-size, list-bits}
-use Rattle.sheet_writer.specs.Pens.{place}
+use Rattle.sheets.specs.Layout.{field-size, list-bits}
 use Rattle.sheet_writer.proofs.Strokes.{pushed-then, pushed-as}
-use Rattle.sheet_writer.proofs.Writing.{ring0-bit, ring1-bit, ring1-ring0, ring0-ring1, bit-ring0, bit-ring1}
+use Rattle.refusal.proofs.Reading.{bit-ring0, bit-ring1, ring0-bit, ring0-ring1, ring1-bit, ring1-ring0}
 use Rattle.sheet_writer.proofs.writer.write_halves.Needs as need
 
 pub drain-pen-requires-2 : need.drain-pen-requires-2
