@@ -29,7 +29,7 @@ pub fn request(entries: u32, half: ReceiverHalf, index: u32) -> u32
 
 // One word of the sender's answer: the entry, blinded and masked.
 pub fn word<G: Group>(table: &[u32], half: SenderHalf<'_>, request: u32, k: usize) -> u32
-    ensures { result ≡ word_of operation (length half.entry.masks.now) (entry_of table.now) (sender_of half.entry) request k }
+    ensures { result ≡ word_of G.operation (length half.entry.masks.now) (entry_of table.now) (sender_of half.entry) request k }
 {
     let mask = at(half.masks, minus(half.masks.len(), k, request as usize));
     G::join(G::join(at(table, k), half.blind), mask)
@@ -37,7 +37,7 @@ pub fn word<G: Group>(table: &[u32], half: SenderHalf<'_>, request: u32, k: usiz
 
 // The sender's answer to a request, in the words that are lent; entries past the table's end are 0.
 pub fn answer<G: Group>(table: &[u32], half: SenderHalf<'_>, request: u32, words: &mut [u32])
-    ensures { words.new ≡ map (word_of operation (length half.entry.masks.now) (entry_of table.now) (sender_of half.entry) request) (range_with_len 0 (length words.old)) }
+    ensures { words.new ≡ map (word_of G.operation (length half.entry.masks.now) (entry_of table.now) (sender_of half.entry) request) (range_with_len 0 (length words.old)) }
 {
     for k in 0..words.len() {
         words[k] = word::<G>(table, half, request, k);
@@ -45,13 +45,13 @@ pub fn answer<G: Group>(table: &[u32], half: SenderHalf<'_>, request: u32, words
 }
 
 pub fn sender_share<G: Group>(half: SenderHalf<'_>) -> u32
-    ensures { result ≡ sender_share operation (sender_of half.entry) }
+    ensures { result ≡ sender_share G.operation (sender_of half.entry) }
 {
     G::inverse(half.blind)
 }
 
 pub fn receiver_share<G: Group>(half: ReceiverHalf, index: u32, words: &[u32]) -> u32
-    ensures { result ≡ receiver_share operation (receiver_of half) index words.now }
+    ensures { result ≡ receiver_share G.operation (receiver_of half) index words.now }
 {
     G::join(at(words, index as usize), G::inverse(half.mask))
 }

@@ -5,21 +5,21 @@ use crate::group::Group;
 
 // The receiver's share and the sender's join to the entry that was sought.
 pub fn shares_join<G: Group>() -> u8
-    ensures { SharesJoin operation }
+    ensures { SharesJoin G.operation }
 {
     0
 }
 
 // What the receiver heard fits every other table of the sender, by exactly one half.
 pub fn table_is_hidden<G: Group>() -> u8
-    ensures { TableHidden operation }
+    ensures { TableHidden G.operation }
 {
     0
 }
 
 // What the sender heard fits every other index of the receiver, by exactly one half.
 pub fn index_is_hidden<G: Group>() -> u8
-    ensures { IndexHidden operation }
+    ensures { IndexHidden G.operation }
 {
     0
 }

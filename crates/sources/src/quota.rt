@@ -22,10 +22,10 @@ pub struct Quota<S> {
 
 impl<S: Source> Quota<S> {
     pub fn new(below: S, allowed: PerKind<u32>) -> Quota<S>
-        ensures owner { quota_owner owner result ≡ owner below }
-        ensures left { (k : KindOf) → quota_left left result k ≡ take (at allowed k) (left below k) }
-        ensures past { (k : KindOf) → quota_past left result k ≡ drop (at allowed k) (left below k) }
-        ensures layer { (k : KindOf) → quota_layer left layer result k ≡ (if ltb (length (left below k)) (at allowed k) then layer below k else QuotaLayer) }
+        ensures owner { quota_owner S.owner result ≡ S.owner below }
+        ensures left { (k : KindOf) → quota_left S.left result k ≡ take (at allowed k) (S.left below k) }
+        ensures past { (k : KindOf) → quota_past S.left result k ≡ drop (at allowed k) (S.left below k) }
+        ensures layer { (k : KindOf) → quota_layer S.left S.layer result k ≡ (if ltb (length (S.left below k)) (at allowed k) then S.layer below k else QuotaLayer) }
     {
         Quota { below, allowed }
     }
@@ -33,7 +33,7 @@ impl<S: Source> Quota<S> {
     // The source below, back: what is left of the quota, and then what lay past it.
     pub fn into_below(self) -> S
         ensures below { result ≡ self.below }
-        ensures left { (k : KindOf) → left result k ≡ quota_left left self k ++ quota_past left self k }
+        ensures left { (k : KindOf) → S.left result k ≡ quota_left S.left self k ++ quota_past S.left self k }
     {
         let Quota { below, allowed: _ } = self;
         below
@@ -41,7 +41,7 @@ impl<S: Source> Quota<S> {
 
     // Whether the list below is shorter than the quota.
     fn is_short_below(&self, kind: Kind) -> bool
-        ensures { result ≡ nat_lt (length (left self.now.below kind)) (at self.now.allowed kind) }
+        ensures { result ≡ nat_lt (length (S.left self.now.below kind)) (at self.now.allowed kind) }
     {
         self.below
             .afford(kind.number(), self.allowed.get(kind))
