@@ -3,4 +3,4 @@ use Rattle.dealer.specs.Running.{run}
 use Rattle.dealer.proofs.running.ahead.Given as goal
 
 abbrev pub invariant-loop-i : goal.invariant-loop-i
-invariant-loop-i l = l.y ≡ run l.-i l.x
+invariant-loop-i l = l.y ≡ run l._i l.x

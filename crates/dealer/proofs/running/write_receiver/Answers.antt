@@ -9,10 +9,10 @@ returns c =
     let k = c.args.kind in
     let x = c.args.x in
     let room : 2 ≤ length c.args.words.now = omega arith in
-    let chosen : c.choice-of-choice.result ≡ choice k x = c.choice-of-choice.ensures.is ∙ ap (λ y. y / 2 ^ choice_low k) c.after-last.ensures in
-    let masked : c.mask-at-mask.result ≡ mask k x (choice k x) = c.mask-at-mask.ensures ∙ ap (mask k x) chosen in
+    let chosen : c.choice_of-choice.result ≡ choice k x = c.choice_of-choice.ensures.is ∙ ap (λ y. y / 2 ^ choice_low k) c.after-last.ensures in
+    let masked : c.mask_at-mask.result ≡ mask k x (choice k x) = c.mask_at-mask.ensures ∙ ap (mask k x) chosen in
     record {
       after = c.after-last.ensures;
-      front = two_front c.args.words.now c.choice-of-choice.result c.mask-at-mask.result room ∙ ap₂ (λ a b. a ∷ b ∷ []) chosen masked;
+      front = two_front c.args.words.now c.choice_of-choice.result c.mask_at-mask.result room ∙ ap₂ (λ a b. a ∷ b ∷ []) chosen masked;
       past = search (rules, drop-set-lt);
     }

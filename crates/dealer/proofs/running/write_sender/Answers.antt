@@ -16,13 +16,13 @@ loop-i-preserved c =
     let inside : i < length ws = search rules in
     let below : i < entries k + 1 = omega arith in
     let ran : c.next-y.result ≡ run (i + 1) x = c.next-y.ensures ∙ ap step c.loop-i.invariant.0 ∙ sym (run_more i x) in
-    let wrote : c.mask-of.result ≡ mask k x i = c.mask-of.ensures ∙ ap (λ y. y / 2 ^ mask_low k) ran in (
+    let wrote : c.mask_of.result ≡ mask k x i = c.mask_of.ensures ∙ ap (λ y. y / 2 ^ mask_low k) ran in (
       ran,
-      take_more_set ws i c.mask-of.result inside
-          ∙ ap (λ l. l ++ (c.mask-of.result ∷ [])) c.loop-i.invariant.1
+      take_more_set ws i c.mask_of.result inside
+          ∙ ap (λ l. l ++ (c.mask_of.result ∷ [])) c.loop-i.invariant.1
           ∙ ap (λ w. map (mask k x) (range_with_len 0 i) ++ (w ∷ [])) wrote
           ∙ sym (map-range_with_len_more (mask k x) 0 i i (omega arith)),
-      drop-set-lt (entries k + 1) ws i c.mask-of.result below ∙ c.loop-i.invariant.2,
+      drop-set-lt (entries k + 1) ws i c.mask_of.result below ∙ c.loop-i.invariant.2,
     )
 
 pub returns : goal.returns

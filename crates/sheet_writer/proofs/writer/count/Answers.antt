@@ -19,5 +19,5 @@ returns-in-Err g c =
     let lacking : get_or c.values.result.words 1 0 ≡ 8192 - length (S.left s j) =
     second_value c.values.result.words c.values.result.count (number j) (8192 - length (S.left s j)) (layer_number (S.layer s j)) (c.values.ensures ∙ ap (λ r. r.values) says) in
     let same : length (S.left s j) ≡ length (S.left s c.args.kind) = ap (λ i. length (S.left s i)) is in
-    let answer = c.saturating-sub.ensures in
+    let answer = c.saturating_sub.ensures in
     (omega arith, omega arith)

@@ -10,11 +10,11 @@ use Rattle.sheet_writer.proofs.writer.drain.Goals as goal
 pub loop-i-init : goal.loop-i-init
 loop-i-init g c = (pushed_none c.args.pen c.args.bytes.now, omega arith, refl, (λ j ne. refl), refl)
 
-pub drain-one-pen-requires : goal.drain-one-pen-requires
-drain-one-pen-requires g c =
+pub drain_one-pen-requires : goal.drain_one-pen-requires
+drain_one-pen-requires g c =
     let S = g.S.Source in
     let all = S.left c.args.source.now c.args.kind in
-    let i = c.loop-i.-i in
+    let i = c.loop-i._i in
     let size = half_size c.args.seat c.args.kind in
     let count = c.requires.all in
     let room = c.requires.room in
@@ -30,16 +30,16 @@ loop-i-preserved g c =
     let s = c.args.source.now in
     let k = c.args.kind in
     let all = S.left s k in
-    let i = c.loop-i.-i in
+    let i = c.loop-i._i in
     let seat = c.args.seat in
     let size = field_size seat k in
     let inv = c.loop-i.invariant in
-    let one = c.drain-one-pen.ensures in
+    let one = c.drain_one-pen.ensures in
     let below : i < length all = omega (arith, c.requires.all) in
     let first : row_bits size 0 (get_or (S.left c.loop-i.source k) 0 []) ≡ row_bits size 0 (get_or (drop i all) 0 []) = ap (λ l. row_bits size 0 (get_or l 0 [])) inv.2 in (
-      pushed_as c.args.pen c.drain-one-pen.result c.args.bytes.now c.drain-one-pen.new.bytes _ (list_bits size (take (i + 1) all))
+      pushed_as c.args.pen c.drain_one-pen.result c.args.bytes.now c.drain_one-pen.new.bytes _ (list_bits size (take (i + 1) all))
           (ap (λ l. list_bits size (take i all) ++ l) first ∙ list_step size all i below)
-          (pushed_then c.args.pen c.loop-i.pen c.drain-one-pen.result c.args.bytes.now c.loop-i.bytes c.drain-one-pen.new.bytes _ _ inv.0 one.pushed),
+          (pushed_then c.args.pen c.loop-i.pen c.drain_one-pen.result c.args.bytes.now c.loop-i.bytes c.drain_one-pen.new.bytes _ _ inv.0 one.pushed),
       (let more = product_more i (half_size seat k) in let a = inv.1 in let b = one.moved in omega arith),
       one.rest ∙ ap (drop 1) inv.2 ∙ drop-drop 1 i all,
       (λ j ne. one.others j ne ∙ inv.3 j ne),
@@ -52,7 +52,7 @@ returns g c =
     let s = c.args.source.now in
     let k = c.args.kind in
     let all = S.left s k in
-    let i = c.loop-i.-i in
+    let i = c.loop-i._i in
     let size = field_size c.args.seat k in
     let inv = c.loop-i.invariant in
     let end : i ≡ c.args.count = omega arith in

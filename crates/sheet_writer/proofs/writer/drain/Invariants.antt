@@ -7,8 +7,8 @@ use Rattle.sheet_writer.proofs.writer.drain.Given as goal
 -- the halves so far stand written, and the others are left
 abbrev pub invariant-loop-i : goal.invariant-loop-i
 invariant-loop-i g l =
-    Pushed l.initial.pen l.pen l.initial.bytes l.bytes (list_bits (field_size l.seat l.kind) (take l.-i (g.S.Source.left l.initial.source l.kind)))
-    × (place l.pen ≡ place l.initial.pen + l.-i * half_size l.seat l.kind)
-    × (g.S.Source.left l.source l.kind ≡ drop l.-i (g.S.Source.left l.initial.source l.kind))
+    Pushed l.initial.pen l.pen l.initial.bytes l.bytes (list_bits (field_size l.seat l.kind) (take l._i (g.S.Source.left l.initial.source l.kind)))
+    × (place l.pen ≡ place l.initial.pen + l._i * half_size l.seat l.kind)
+    × (g.S.Source.left l.source l.kind ≡ drop l._i (g.S.Source.left l.initial.source l.kind))
     × ((j : Kind) → (j ≡ l.kind → ⊥) → g.S.Source.left l.source j ≡ g.S.Source.left l.initial.source j)
     × (g.S.Source.owner l.source ≡ g.S.Source.owner l.initial.source)

@@ -10,8 +10,8 @@ use Rattle.sheet_writer.proofs.Strokes.{pushed_as}
 use Rattle.sheet_writer.proofs.Writing.{drew_half, drew_rest, drew_others, drew_in_range}
 use Rattle.sheet_writer.proofs.writer.drain_one.Goals as goal
 
-pub push-half-requires : goal.push-half-requires
-push-half-requires g c =
+pub push_half-requires : goal.push_half-requires
+push_half-requires g c =
     let S = g.S.Source in
     let s = c.args.source.now in
     let k = c.args.kind in
@@ -40,10 +40,10 @@ returns-in-Ok g c =
     let inside : InRange (S.owner s) k (take n ws) = drew_in_range (S.left s) (S.left s') (S.owner s) c.number.result k _ ws n is drew (S.ranges s k) in
     let long = length_half seat k (take n ws) (subst (λ i. InRange i k (take n ws)) (sym c.requires.seat) inside) in
     let half = drew_half (S.left s) (S.left s') (S.owner s) c.number.result k _ ws n is drew in
-    let whole : Pushed c.args.pen c.push-half.result c.args.bytes.now c.push-half.new.bytes (row_bits (field_size seat k) 0 (take n ws)) =
-    pushed_as c.args.pen c.push-half.result c.args.bytes.now c.push-half.new.bytes (row_bits (field_size seat k) 0 (take (n - 0) ws)) (row_bits (field_size seat k) 0 (take n ws)) (ap (λ j. row_bits (field_size seat k) 0 (take j ws)) e) c.push-half.ensures in
+    let whole : Pushed c.args.pen c.push_half.result c.args.bytes.now c.push_half.new.bytes (row_bits (field_size seat k) 0 (take n ws)) =
+    pushed_as c.args.pen c.push_half.result c.args.bytes.now c.push_half.new.bytes (row_bits (field_size seat k) 0 (take (n - 0) ws)) (row_bits (field_size seat k) 0 (take n ws)) (ap (λ j. row_bits (field_size seat k) 0 (take j ws)) e) c.push_half.ensures in
     record {
-      pushed = pushed_as c.args.pen c.push-half.result c.args.bytes.now c.push-half.new.bytes (row_bits (field_size seat k) 0 (take n ws)) (row_bits (field_size seat k) 0 (get_or (S.left s k) 0 [])) (ap (row_bits (field_size seat k) 0) half) whole;
+      pushed = pushed_as c.args.pen c.push_half.result c.args.bytes.now c.push_half.new.bytes (row_bits (field_size seat k) 0 (take n ws)) (row_bits (field_size seat k) 0 (get_or (S.left s k) 0 [])) (ap (row_bits (field_size seat k) 0) half) whole;
       moved = whole.on ∙ ap (λ m. place c.args.pen + m) long;
       rest = drew_rest (S.left s) (S.left s') (S.owner s) c.number.result k _ ws n is drew;
       others = drew_others (S.left s) (S.left s') (S.owner s) c.number.result k _ ws n is drew;

@@ -7,7 +7,7 @@ pub returns-then-i-sheet : goal.returns-then-i-sheet
 returns-then-i-sheet c =
     let s = c.args.sheet.now in
     let i = c.args.i in
-    let e : c.from.result ≡ get_or (bits_of s) i 0 = c.from.ensures ∙ c.bit-of.ensures ∙ sym (bit_at s i c.if-i-sheet.true) in
+    let e : c.from.result ≡ get_or (bits_of s) i 0 = c.from.ensures ∙ c.bit_of.ensures ∙ sym (bit_at s i c.if-i-sheet.true) in
     record { is = e; low = subst (λ b. b < 2) (sym e) (bit_low s i) }
 
 pub returns-else-i-sheet : goal.returns-else-i-sheet

@@ -7,7 +7,7 @@ use Rattle.sheets.proofs.Sizes.{width_few, row_step}
 use Rattle.sheets.proofs.layout.read_half.Goals as goal
 
 pub read-requires : goal.read-requires
-read-requires c = let few = width_few c.args.seat c.args.kind in (c.field-size-size.ensures.most, omega arith)
+read-requires c = let few = width_few c.args.seat c.args.kind in (c.field_size-size.ensures.most, omega arith)
 
 pub loop-i-preserved : goal.loop-i-preserved
 loop-i-preserved c =
@@ -18,9 +18,9 @@ loop-i-preserved c =
     let few = width_few c.args.seat c.args.kind in
     let below : i < n = omega arith in
     let inside : i < length c.loop-i.words = omega arith in
-    let most = c.field-size-size.ensures.most in (
-      row_step bs size c.loop-i.words c.loop-i.at (c.loop-i.at + c.field-size-size.result) i n c.read.result below inside
-          (c.read.ensures.is ∙ ap (read bs c.loop-i.at) c.field-size-size.ensures.is) (ap (λ m. c.loop-i.at + m) c.field-size-size.ensures.is)
+    let most = c.field_size-size.ensures.most in (
+      row_step bs size c.loop-i.words c.loop-i.at (c.loop-i.at + c.field_size-size.result) i n c.read.result below inside
+          (c.read.ensures.is ∙ ap (read bs c.loop-i.at) c.field_size-size.ensures.is) (ap (λ m. c.loop-i.at + m) c.field_size-size.ensures.is)
           ∙ c.loop-i.invariant.0,
       drop-set-lt n c.loop-i.words i c.read.result below ∙ c.loop-i.invariant.1,
       omega arith,

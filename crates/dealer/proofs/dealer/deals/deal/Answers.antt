@@ -7,9 +7,9 @@ use Rattle.dealer.proofs.dealer.deals.deal.Goals as goal
 pub returns : goal.returns
 returns c =
     let counts = c.args.counts in
-    let runs = c.running-from-running.ensures in
+    let runs = c.running_from-running.ensures in
     record {
       first = record { low = lit< tt; owner = refl; left = λ k. ap (dealt 0 k (at counts k)) (runs k) };
       second = record { low = lit< tt; owner = refl; left = λ k. ap (dealt 1 k (at counts k)) (runs k) };
-      lawful = λ k. dealt_fit k (at counts k) (at c.running-from-running.result k);
+      lawful = λ k. dealt_fit k (at counts k) (at c.running_from-running.result k);
     }

@@ -8,8 +8,8 @@ use Rattle.sheet_writer.proofs.pen.Pen.push.Goals as goal
 pub loop-i-init : goal.loop-i-init
 loop-i-init c = pushed_none c.args.self c.args.bytes.now
 
-pub push-bit-pen-requires : goal.push-bit-pen-requires
-push-bit-pen-requires c =
+pub push_bit-pen-requires : goal.push_bit-pen-requires
+push_bit-pen-requires c =
     let i = c.loop-i.i in
     let long = length_bits i (c.args.value / 2 ^ (c.args.n - i)) in
     (omega arith, omega arith)
@@ -20,9 +20,9 @@ loop-i-preserved c =
     let n = c.args.n in
     let v = c.args.value in
     let bit = v / 2 ^ (n - 1 - i) % 2 in
-    pushed_as c.args.self c.push-bit-pen.result c.args.bytes.now c.push-bit-pen.new.bytes _ (bits (i + 1) (v / 2 ^ (n - (i + 1)))) (sym (bits_first v n i (omega arith)))
-    (pushed_then c.args.self c.loop-i.pen c.push-bit-pen.result c.args.bytes.now c.loop-i.bytes c.push-bit-pen.new.bytes (bits i (v / 2 ^ (n - i))) (bit ∷ [])
-    c.loop-i.invariant c.push-bit-pen.ensures)
+    pushed_as c.args.self c.push_bit-pen.result c.args.bytes.now c.push_bit-pen.new.bytes _ (bits (i + 1) (v / 2 ^ (n - (i + 1)))) (sym (bits_first v n i (omega arith)))
+    (pushed_then c.args.self c.loop-i.pen c.push_bit-pen.result c.args.bytes.now c.loop-i.bytes c.push_bit-pen.new.bytes (bits i (v / 2 ^ (n - i))) (bit ∷ [])
+    c.loop-i.invariant c.push_bit-pen.ensures)
 
 pub returns : goal.returns
 returns c =

@@ -6,8 +6,8 @@ use Rattle.sheets.proofs.Sizes.{half_some}
 use Rattle.sheets.proofs.Opening.{span_is, no_sheet, end_is, opened}
 use Rattle.sheets.proofs.sheet.SheetSource.open.Goals as goal
 
-pub returns-then-not-is-whole : goal.returns-then-not-is-whole
-returns-then-not-is-whole c =
+pub returns-then-not-is_whole : goal.returns-then-not-is_whole
+returns-then-not-is_whole c =
     let bytes = c.args.sheet.now in
     let bs = bits_of bytes in
     let seat : c.read-seat.result ≡ seat_of bs = c.read-seat.ensures.is in
@@ -16,7 +16,7 @@ returns-then-not-is-whole c =
     let d = span_is bs Ring1 c.span-2.result c.read-3.result c.read-seat.result c.span-2.ensures.is c.read-3.ensures.is seat in
     let third = 40 + c.span-first.result + c.span.result + c.span-2.result in
     let end : third ≡ end_of bs = end_is bytes c.span-first.result c.span.result c.span-2.result a b d in
-    record { none = no_sheet bytes (ap (whole_at bytes) (sym end) ∙ sym c.is-whole.ensures ∙ c.if-not-is-whole.true); says = refl }
+    record { none = no_sheet bytes (ap (whole_at bytes) (sym end) ∙ sym c.is_whole.ensures ∙ c.if-not-is_whole.true); says = refl }
 
 pub returns : goal.returns
 returns c =
@@ -28,4 +28,4 @@ returns c =
     let d = span_is bs Ring1 c.span-2.result c.read-3.result c.read-seat.result c.span-2.ensures.is c.read-3.ensures.is seat in
     let third = 40 + c.span-first.result + c.span.result + c.span-2.result in
     let end : third ≡ end_of bs = end_is bytes c.span-first.result c.span.result c.span-2.result a b d in
-    opened bytes c.read-seat.result c.span-first.result c.span.result c.span-2.result a b d seat c.read-seat.ensures.low (half_some (seat_of bs)) (ap (whole_at bytes) (sym end) ∙ sym c.is-whole.ensures ∙ c.if-not-is-whole.false)
+    opened bytes c.read-seat.result c.span-first.result c.span.result c.span-2.result a b d seat c.read-seat.ensures.low (half_some (seat_of bs)) (ap (whole_at bytes) (sym end) ∙ sym c.is_whole.ensures ∙ c.if-not-is_whole.false)

@@ -22,18 +22,18 @@ returns c =
     let is = known.1 in
     let room : 17 ≤ length c.args.words.now = omega arith in
     let have : c.have.result ≡ sheet_have s k = c.have.ensures ∙ ap (sheet_have s) is in
-    let some : 0 < sheet_have s k = omega (arith, c.in-default-enough.ensures) in
+    let some : 0 < sheet_have s k = omega (arith, c.in_default-enough.ensures) in
     let p : c.get.result ≡ at s.marks k = c.get.ensures ∙ ap (at s.marks) is in
     let owner = c.owner-seat.ensures.0 in
-    let wrote = c.read-half.ensures in
-    let moved = c.move-on.ensures in
+    let wrote = c.read_half.ensures in
+    let moved = c.move_on.ensures in
     let n : c.width.result ≡ width seat k = c.width.ensures ∙ ap₂ width owner is in
     let ws = c.args.words.now in
-    let ws' = c.read-half.new.words in
+    let ws' = c.read_half.new.words in
     let drawn = sheet_drew bs seat kind s.marks s.ends (with_at k (at s.marks k + half_size seat k) s.marks) ws ws' c.width.result known.0 room (half_some seat k) some refl n
     (ap (λ m. take m ws') c.width.ensures ∙ wrote.front ∙ ap₂ (λ i j. row_at bs (field_size i j) c.get.result 0 (width i j)) owner is ∙ ap (λ q. row_at bs (field_size seat k) q 0 (width seat k)) p)
     (ap (λ m. drop m ws') c.width.ensures ∙ wrote.past ∙ ap (λ m. drop m ws) (sym c.width.ensures)) in
-    let after : c.move-on.new.self ≡ record { sheet = s.sheet; second = s.second; marks = with_at k (at s.marks k + half_size seat k) s.marks; ends = s.ends } =
+    let after : c.move_on.new.self ≡ record { sheet = s.sheet; second = s.second; marks = with_at k (at s.marks k + half_size seat k) s.marks; ends = s.ends } =
     moved ∙ ap (λ j. record { sheet = s.sheet; second = s.second; marks = with_at j (at s.marks j + half_size seat j) s.marks; ends = s.ends }) is in
     record {
       draws = subst (λ (q : SheetSource). Drew seat (sheet_left s) (sheet_left q) kind ws ws' c.width.result) (sym after) drawn;

@@ -6,19 +6,19 @@ use Rattle.sources.specs.Calls.{Drew}
 use Rattle.sources.proofs.Limits.{layered, below_drew, below_stays, beyond_stays, layer_stays}
 use Rattle.sources.proofs.quota.QuotaSource.draw.Goals as goal
 
-pub returns-in-err-n : goal.returns-in-err-n
-returns-in-err-n g c =
+pub returns-in_err-n : goal.returns-in_err-n
+returns-in_err-n g c =
     let s = c.args.self.now in
     let S = g.S.Source in
     let known = c.in-Some.ensures in
     let number : c.get.result ≡ at s.allowed (kind_of c.args.kind) = c.get.ensures ∙ ap (at s.allowed) known.1 in
-    let some : 0 < at s.allowed (kind_of c.args.kind) = omega (arith, c.in-default-enough.ensures) in
+    let some : 0 < at s.allowed (kind_of c.args.kind) = omega (arith, c.in_default-enough.ensures) in
     let room : 17 ≤ length c.args.words.now = omega arith in
-    let below = c.in-err-n.ensures.draws in
-    let p = err_from_is_err_and c.from-residual.result c.from-residual.ensures.1 in
+    let below = c.in_err-n.ensures.draws in
+    let p = err_from_is_err_and c.from_residual.result c.from_residual.ensures.1 in
     rw (p.1, p.2)
     (record {
-      draws = below_stays s.allowed (S.left s.below) (S.layer s.below) (S.left c.draw.new.self) c.args.kind c.args.words.now c.draw.new.words c.in-err-n.field-0.0 some known.0 room below;
+      draws = below_stays s.allowed (S.left s.below) (S.layer s.below) (S.left c.draw.new.self) c.args.kind c.args.words.now c.draw.new.words c.in_err-n.field-0.0 some known.0 room below;
       owner = c.draw.ensures.owner;
       layer = ap₂ (λ l y. layered s.allowed l y) below.same c.draw.ensures.layer;
       past = λ k. ap (λ l. drop (at s.allowed k) (l k)) below.same;
@@ -36,11 +36,11 @@ returns g c =
     let k = kind_of kind in
     let known = c.in-Some.ensures in
     let number : c.get.result ≡ at a k = c.get.ensures ∙ ap (at a) known.1 in
-    let some : 0 < at a k = omega (arith, c.in-default-enough.ensures) in
+    let some : 0 < at a k = omega (arith, c.in_default-enough.ensures) in
     let lower : c.lower.new.self.allowed ≡ with_at k (at a k - 1) a = ap (λ q. q.allowed) c.lower.ensures ∙ ap (λ j. with_at j (at a j - 1) a) known.1 in
     let below : c.lower.new.self.below ≡ c.draw.new.self = ap (λ q. q.below) c.lower.ensures in
-    let drew = c.in-ok-n.ensures.draws in
-    let n = c.in-ok-n.n in
+    let drew = c.in_ok-n.ensures.draws in
+    let n = c.in_ok-n.n in
     let ws = c.args.words.now in
     let ws' = c.draw.new.words in
     let drawn = below_drew a seat left left' kind ws ws' n some drew in

@@ -10,20 +10,20 @@ use Rattle.dealer.proofs.dealer.deals.DealerSource.draw.Goals as goal
 pub returns : goal.returns
 returns c =
     let s = c.args.self.now in
-    let s' = c.move-on.new.self in
+    let s' = c.move_on.new.self in
     let kind = c.args.kind in
     let k = kind_of kind in
     let known = c.in-Some.ensures in
     let is = known.1 in
     let room : 17 ≤ length c.args.words.now = omega arith in
     let have : c.get.result ≡ at s.counts k = c.get.ensures ∙ ap (at s.counts) is in
-    let some : 0 < at s.counts k = omega (arith, c.in-default-enough.ensures) in
+    let some : 0 < at s.counts k = omega (arith, c.in_default-enough.ensures) in
     let x : c.get-x.result ≡ at s.running k = c.get-x.ensures ∙ ap (at s.running) is in
-    let wrote = c.write-half.ensures in
-    let moved = c.move-on.ensures in
+    let wrote = c.write_half.ensures in
+    let moved = c.move_on.ensures in
     let n : c.width.result ≡ width s.seat c.in-Some.k = c.width.ensures ∙ ap (λ i. width i c.in-Some.k) moved.seat in
     let ws = c.args.words.now in
-    let ws' = c.write-half.new.words in
+    let ws' = c.write_half.new.words in
     record {
       draws = subst (λ i. Drew s.seat (λ j. dealt s.seat j (at s.counts j) (at s.running j)) (λ j. dealt i j (at s'.counts j) (at s'.running j)) kind ws ws' c.width.result) (sym moved.seat)
           (dealer_drew s.seat kind s.counts s.running s'.counts s'.running ws ws' c.width.result known.0 room some
