@@ -1,5 +1,6 @@
 // Two examiners learn whether both of two shared bits are 1, by one lookup over dealt correlations.
 #![tactic(auto)]
+
 use conjunction::{Exchange, Shares, conjoin};
 use dealer::dealer::deals::deal;
 use refusal::per_kind::PerKind;

@@ -1,5 +1,6 @@
 // Deals correlations into two sheets, reads the sheets again, and checks that the deal is lawful.
 #![tactic(auto)]
+
 use anyhow::anyhow;
 use dealer::dealer::deals::deal;
 use order::Order;

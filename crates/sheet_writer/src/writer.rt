@@ -15,7 +15,7 @@ use sources::source::Source;
 
 // How many halves of a kind a source has; more than a sheet can count are refused.
 fn count<S: Source>(source: &S, kind: Kind) -> Result<u32, Refusal>
-    ensures { MatchResult result (λ n. (n ≡ length (left source.now kind)) × (n < 8192)) (λ e. (8191 < length (left source.now kind)) × (code e ≡ plain 8)) }
+    ensures { MatchResult result (λ n. (n ≡ length (S.left source.now kind)) × (n < 8192)) (λ e. (8191 < length (S.left source.now kind)) × (code e ≡ plain 8)) }
 {
     match source.afford(kind.number(), 8192) {
         Ok(()) => Err(Refusal::BadArgument),
@@ -25,7 +25,7 @@ fn count<S: Source>(source: &S, kind: Kind) -> Result<u32, Refusal>
 
 // How many halves of each kind a source has.
 fn counts<S: Source>(source: &S) -> Result<PerKind<u32>, Refusal>
-    ensures { MatchResult result (Counted (left source.now)) (TooMany (left source.now)) }
+    ensures { MatchResult result (Counted (S.left source.now)) (TooMany (S.left source.now)) }
 {
     let bit = match count(source, Kind::Bit) {
         Ok(n) => n,
@@ -54,14 +54,14 @@ fn bits_needed(seat: u8, counts: PerKind<u32>) -> usize
 
 // Draws the first half of a kind, and writes it.
 fn drain_one<S: Source>(pen: Pen, source: &mut S, seat: u8, kind: Kind, bytes: &mut [u8]) -> Pen
-    requires some { 0 < length (left source.old kind) }
-    requires seat { seat ≡ owner source.old }
+    requires some { 0 < length (S.left source.old kind) }
+    requires seat { seat ≡ S.owner source.old }
     requires room { place_of pen + half_size seat kind ≤ 8 * length bytes.old }
-    ensures pushed { Pushed pen result bytes.old bytes.new (row_bits (field_size seat kind) 0 (slice_index_or (left source.old kind) 0 [])) }
+    ensures pushed { Pushed pen result bytes.old bytes.new (row_bits (field_size seat kind) 0 (slice_index_or (S.left source.old kind) 0 [])) }
     ensures moved { place_of result ≡ place_of pen + half_size seat kind }
-    ensures rest { left source.new kind ≡ drop 1 (left source.old kind) }
-    ensures others { (j : KindOf) → (j ≢ kind) → left source.new j ≡ left source.old j }
-    ensures owner { owner source.new ≡ owner source.old }
+    ensures rest { S.left source.new kind ≡ drop 1 (S.left source.old kind) }
+    ensures others { (j : KindOf) → (j ≢ kind) → S.left source.new j ≡ S.left source.old j }
+    ensures owner { S.owner source.new ≡ S.owner source.old }
 {
     let mut words = [0u32; 17];
     match source.draw(kind.number(), &mut words) {
@@ -79,13 +79,13 @@ fn drain<S: Source>(
     count: u32,
     bytes: &mut [u8],
 ) -> Pen
-    requires all { count ≡ length (left source.old kind) }
-    requires seat { seat ≡ owner source.old }
+    requires all { count ≡ length (S.left source.old kind) }
+    requires seat { seat ≡ S.owner source.old }
     requires room { place_of pen + count * half_size seat kind ≤ 8 * length bytes.old }
-    ensures pushed { Pushed pen result bytes.old bytes.new (list_bits (field_size seat kind) (left source.old kind)) }
+    ensures pushed { Pushed pen result bytes.old bytes.new (list_bits (field_size seat kind) (S.left source.old kind)) }
     ensures moved { place_of result ≡ place_of pen + count * half_size seat kind }
-    ensures drained { Drained kind (left source.old) (left source.new) }
-    ensures owner { owner source.new ≡ owner source.old }
+    ensures drained { Drained kind (S.left source.old) (S.left source.new) }
+    ensures owner { S.owner source.new ≡ S.owner source.old }
 {
     let mut pen = pen;
     for _i in 0..count {
@@ -115,14 +115,14 @@ fn write_halves<S: Source>(
     counts: PerKind<u32>,
     bytes: &mut [u8],
 ) -> Pen
-    requires counted { Counted (left source.old) counts }
-    requires seat { seat ≡ owner source.old }
+    requires counted { Counted (S.left source.old) counts }
+    requires seat { seat ≡ S.owner source.old }
     requires start { place_of pen ≡ 40 }
     requires room { bits_needed seat counts ≤ 8 * length bytes.old }
-    ensures pushed { Pushed pen result bytes.old bytes.new (body_bits seat (left source.old)) }
+    ensures pushed { Pushed pen result bytes.old bytes.new (body_bits seat (S.left source.old)) }
     ensures moved { place_of result ≡ bits_needed seat counts }
-    ensures empty { (k : KindOf) → left source.new k ≡ [] }
-    ensures owner { owner source.new ≡ owner source.old }
+    ensures empty { (k : KindOf) → S.left source.new k ≡ [] }
+    ensures owner { S.owner source.new ≡ S.owner source.old }
 {
     let pen = drain(pen, source, seat, Kind::Bit, counts.bit, bytes);
     let pen = drain(pen, source, seat, Kind::Ring0, counts.ring0, bytes);
@@ -132,8 +132,8 @@ fn write_halves<S: Source>(
 // Writes the sheet of a source in front of the bytes, and answers how many bytes it has. The source
 // is empty afterwards. More than 8,191 halves of a kind are refused, and then too few bytes.
 pub fn write_sheet<S: Source>(source: &mut S, bytes: &mut [u8]) -> Result<usize, Refusal>
-    ensures sheet { MatchResult result (Wrote (owner source.old) (left source.old) (left source.new) bytes.old bytes.new) (Kept (owner source.old) (left source.old) (left source.new) bytes.old bytes.new) }
-    ensures owner { owner source.new ≡ owner source.old }
+    ensures sheet { MatchResult result (Wrote (S.owner source.old) (S.left source.old) (S.left source.new) bytes.old bytes.new) (Kept (S.owner source.old) (S.left source.old) (S.left source.new) bytes.old bytes.new) }
+    ensures owner { S.owner source.new ≡ S.owner source.old }
 {
     let counts = match counts(source) {
         Ok(n) => n,

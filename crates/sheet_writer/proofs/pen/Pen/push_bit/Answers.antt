@@ -6,8 +6,8 @@ use Rattle.sheet_writer.proofs.pen.Pen.push_bit.Goals as goal
 pub returns-then-self-eq7 : goal.returns-then-self-eq7
 returns-then-self-eq7 c = pushed_whole c.args.self _ c.args.bytes.now c.args.bit (omega arith) (omega arith) (omega arith) refl refl
 
-pub invariant-of-result-2 : goal.invariant-of-result-2
-invariant-of-result-2 c = (omega arith, (low_more c.args.self.filled c.args.self.current c.args.bit c.args.self.low (omega arith), tt))
+pub invariant_of-result-2 : goal.invariant_of-result-2
+invariant_of-result-2 c = record { part = omega arith; low = low_more c.args.self.filled c.args.self.current c.args.bit c.args.self.low (omega arith) }
 
 pub returns : goal.returns
 returns c = pushed_held c.args.self _ c.args.bytes.now c.args.bit (omega arith) refl refl refl
