@@ -1,7 +1,7 @@
 -- One lookup over fitting halves gives the "and" of the two bits.
 use Rattle.std.proofs.Common.{◌≡◌, ℕ, zero, suc, ◌+◌, ◌*◌, ◌%◌, ◌<◌, Bool, true, false, ◌&&◌, eqb, [], ◌∷◌, get_or, sym, refl, ap, ◌∙◌, subst, ap₂, mod-lt, arith, lit<, eqb-true}
 use lib.Bits.{bit_and, bit_xor, and_le_l, xor_comm, xor_lt, xor_mod}
-use Rattle.std.specs.List.{AllZip, AllByRecursion as All}
+use Rattle.std.specs.List.{AllZip, AllByRecursion}
 use Rattle.refusal.specs.declared.kind.Kind.{Kind}
 use Rattle.refusal.specs.declared.kind.Kind.TheVariants.{Bit, Ring0, Ring1}
 use Rattle.refusal.proofs.Reading.{ring0_bit, ring1_bit}
@@ -99,12 +99,12 @@ module _ (s s' r r' : Halves) (h t : Half) (sent : s Bit ≡ h ∷ s' Bit) (soug
   left_lawful law Ring0 = rw (others Ring0 ring0_bit, others' Ring0 ring0_bit) (law Ring0)
   left_lawful law Ring1 = rw (others Ring1 ring1_bit, others' Ring1 ring1_bit) (law Ring1)
 
-  pub agreed : (seat seat' : ℕ) (a b : Shares) (e : Exchange) → All (InRange seat Bit) (s Bit) → All (InRange seat' Bit) (r Bit)
+  pub agreed : (seat seat' : ℕ) (a b : Shares) (e : Exchange) → AllByRecursion (InRange seat Bit) (s Bit) → AllByRecursion (InRange seat' Bit) (r Bit)
       → Exchanged h t a b e → Agreed seat seat' s s' r r' a b e
   agreed seat seat' a b e S R x = record {
     conjoins = λ p q law.
-        let own : All (InRange 0 Bit) (h ∷ s' Bit) = subst (λ l. All (InRange 0 Bit) l) sent (subst (λ i. All (InRange i Bit) (s Bit)) p S) in
-        let far : All (InRange 1 Bit) (t ∷ r' Bit) = subst (λ l. All (InRange 1 Bit) l) sought (subst (λ i. All (InRange i Bit) (r Bit)) q R) in
+        let own : AllByRecursion (InRange 0 Bit) (h ∷ s' Bit) = subst (λ l. AllByRecursion (InRange 0 Bit) l) sent (subst (λ i. AllByRecursion (InRange i Bit) (s Bit)) p S) in
+        let far : AllByRecursion (InRange 1 Bit) (t ∷ r' Bit) = subst (λ l. AllByRecursion (InRange 1 Bit) l) sought (subst (λ i. AllByRecursion (InRange i Bit) (r Bit)) q R) in
         x.conjoins own.0 far.0 (first_fits law).0;
     lawful = left_lawful;
   }

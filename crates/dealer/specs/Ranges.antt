@@ -1,7 +1,7 @@
 -- Every field that a dealer deals is in range: what it shows as a source.
 use Rattle.std.specs.Prelude.{◌≡◌, ℕ, zero, suc, ◌+◌, ◌-◌, ◌*◌, ◌/◌, ◌^◌, ◌<◌, true, false, cond, map, length, take, MatchBool, slice_index, refl}
 use Rattle.std.proofs.Common.{sym, ap, subst, ◌∙◌, mod-lt, arith, lit<}
-use Rattle.std.specs.List.{range_with_len, AllByRecursion as All}
+use Rattle.std.specs.List.{range_with_len, AllByRecursion}
 use Rattle.std.proofs.lemmas.Nat.{div_below}
 use Rattle.std.proofs.lemmas.List.FromFn.{length-map-range_with_len, get_or-map-range_with_len, take-map-range_with_len}
 use Rattle.refusal.specs.declared.kind.Kind.{Kind}
@@ -75,6 +75,6 @@ half_in_range seat k x =
       | false ↦ receiver_in_range k x
     ]
 
-pub dealt_in_range : (seat : ℕ) (k : Kind) (n x : ℕ) → All (InRange seat k) (dealt seat k n x)
+pub dealt_in_range : (seat : ℕ) (k : Kind) (n x : ℕ) → AllByRecursion (InRange seat k) (dealt seat k n x)
 dealt_in_range seat k zero x = tt
 dealt_in_range seat k (suc n) x = (half_in_range seat k x, dealt_in_range seat k n (run (entries k + 2) x))

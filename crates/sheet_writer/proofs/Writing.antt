@@ -1,6 +1,6 @@
 -- What draining a source writes: one half, a list of them, and the whole sheet.
 use Rattle.std.proofs.Common.{◌≡◌, ℕ, ◌+◌, ◌-◌, ◌*◌, ◌/◌, ◌<◌, ◌≤◌, List, [], ◌∷◌, ◌++◌, length, get_or, take, drop, replicate, sym, ap, ◌∙◌, subst, ap₂, append_assoc, append-nil, add-mul, one-mul, arith}
-use Rattle.std.specs.List.{AllByRecursion as All}
+use Rattle.std.specs.List.{AllByRecursion}
 use Rattle.std.proofs.lemmas.List.{take_more, get_or-drop}
 use Rattle.refusal.specs.declared.kind.Kind.{Kind}
 use Rattle.refusal.specs.declared.kind.Kind.TheVariants.{Bit, Ring0, Ring1}
@@ -31,8 +31,8 @@ module _ (left left' : Halves) (seat m : ℕ) (k : Kind) (ws ws' : List ℕ) (n 
   pub drew_others : (j : Kind) → (j ≡ k → ⊥) → left' j ≡ left j
   drew_others j ne = d.others j (λ e. ne (e ∙ is))
 
-  pub drew_in_range : All (InRange seat k) (left k) → InRange seat k (take n ws')
-  drew_in_range r = (subst (λ l. All (InRange seat k) l) drew_first r).0
+  pub drew_in_range : AllByRecursion (InRange seat k) (left k) → InRange seat k (take n ws')
+  drew_in_range r = (subst (λ l. AllByRecursion (InRange seat k) l) drew_first r).0
 
 -- one half more of a list
 list_bits_more : (size : ℕ → ℕ) (hs : List Half) (h : Half) → list_bits size (hs ++ (h ∷ [])) ≡ list_bits size hs ++ row_bits size 0 h
@@ -74,7 +74,7 @@ needed_is seat g counts is =
 
 -- the whole sheet, from its header, its halves and its filling
 module _ (seat : ℕ) (g g' : Halves) (counts : PerKind ℕ) (p q : Pen) (n : ℕ) (xs ys zs us : List ℕ) where
-  pub wrote : seat < 2 → ((k : Kind) → All (InRange seat k) (g k)) → Counted g counts → (bits_needed seat counts + 7) / 8 ≤ length xs
+  pub wrote : seat < 2 → ((k : Kind) → AllByRecursion (InRange seat k) (g k)) → Counted g counts → (bits_needed seat counts + 7) / 8 ≤ length xs
       → written p ys ≡ header_bits seat counts → drop 5 ys ≡ drop 5 xs → place p ≡ 40
       → Pushed p q ys zs (body_bits seat g) → place q ≡ bits_needed seat counts → Finished q n zs us → ((k : Kind) → g' k ≡ [])
       → Wrote seat g g' xs us n

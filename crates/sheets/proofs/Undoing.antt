@@ -1,6 +1,6 @@
 -- Reading a sheet gives back what was written: rows of fields, lists of halves, the header, and the whole.
 use Rattle.std.proofs.Common.{◌≡◌, ℕ, zero, suc, ◌+◌, ◌-◌, ◌*◌, ◌/◌, ◌^◌, ◌<◌, ◌≤◌, Bool, true, false, cond, ◌&&◌, eqb, List, [], ◌∷◌, ◌++◌, length, get_or, replicate, Some, None, MatchBool, sym, refl, ap, ◌∙◌, subst, ap₂, inl, inr, append_assoc, arith}
-use Rattle.std.specs.List.{AllByRecursion as All}
+use Rattle.std.specs.List.{AllByRecursion}
 use Rattle.std.proofs.lemmas.List.{length-append, length-replicate, get_or-take}
 use Rattle.std.proofs.lemmas.Bool.{eq-eqb, cases_lt}
 use Rattle.refusal.specs.declared.kind.Kind.{Kind}
@@ -87,7 +87,7 @@ module _ (seat : ℕ) (k : Kind) where
   pub length_half : (h : Half) → InRange seat k h → length (row_bits (field_size seat k) 0 h) ≡ half_size seat k
   length_half h r = (row_fits (sends seat k) k h r).long
 
-  pub length_list : (hs : List Half) → All (InRange seat k) hs → length (list_bits (field_size seat k) hs) ≡ length hs * half_size seat k
+  pub length_list : (hs : List Half) → AllByRecursion (InRange seat k) hs → length (list_bits (field_size seat k) hs) ≡ length hs * half_size seat k
   length_list [] r = omega arith
   length_list (h ∷ hs) r =
       let e : suc (length hs) * half_size seat k ≡ half_size seat k + length hs * half_size seat k = omega arith in
@@ -97,7 +97,7 @@ module _ (seat : ℕ) (k : Kind) where
   pub half_read : (bs : List ℕ) (p : ℕ) (h : Half) → InRange seat k h → Lies bs p (row_bits (field_size seat k) 0 h) → row_at bs (field_size seat k) p 0 (width seat k) ≡ h
   half_read bs p h r l = ap (row_at bs (field_size seat k) p 0) (sym (half_wide h r)) ∙ row_read bs (field_size seat k) p 0 h (half_room h r) l
 
-  pub list_read : (bs : List ℕ) (p : ℕ) (hs : List Half) → All (InRange seat k) hs → Lies bs p (list_bits (field_size seat k) hs) → halves_at bs seat k (length hs) p ≡ hs
+  pub list_read : (bs : List ℕ) (p : ℕ) (hs : List Half) → AllByRecursion (InRange seat k) hs → Lies bs p (list_bits (field_size seat k) hs) → halves_at bs seat k (length hs) p ≡ hs
   list_read bs p [] r l = refl
   list_read bs p (h ∷ hs) r l =
       let e : p + length (row_bits (field_size seat k) 0 h) ≡ p + half_size seat k = ap (λ n. p + n) (length_half h r.0) in

@@ -1,7 +1,7 @@
 -- Every field that is read from a sheet is in range: what a sheet shows as a source.
 use Rattle.std.specs.Prelude.{◌≡◌, ℕ, zero, suc, ◌+◌, ◌-◌, ◌^◌, ◌<◌, Bool, true, false, cond, List, length, MatchBool, ◌==◌, slice_index, refl}
 use Rattle.std.proofs.Common.{sym, ap, subst, ◌∙◌, arith}
-use Rattle.std.specs.List.{AllByRecursion as All}
+use Rattle.std.specs.List.{AllByRecursion}
 use Rattle.std.proofs.lemmas.List.{length-take-le, get_or-take}
 use Rattle.refusal.specs.declared.kind.Kind.{Kind}
 use Rattle.refusal.specs.declared.kind.Kind.TheVariants.{Bit, Ring0, Ring1}
@@ -63,6 +63,6 @@ module _ (sheet : List ℕ) (k : Kind) where
   either_row true p = sender_row p
   either_row false p = receiver_row p
 
-pub halves_in_range : (sheet : List ℕ) (seat : ℕ) (k : Kind) (n p : ℕ) → All (InRange seat k) (halves_at (bits_of sheet) seat k n p)
+pub halves_in_range : (sheet : List ℕ) (seat : ℕ) (k : Kind) (n p : ℕ) → AllByRecursion (InRange seat k) (halves_at (bits_of sheet) seat k n p)
 halves_in_range sheet seat k zero p = tt
 halves_in_range sheet seat k (suc n) p = (either_row sheet k (sends seat k) p, halves_in_range sheet seat k n (p + half_size seat k))

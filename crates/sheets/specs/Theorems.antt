@@ -1,6 +1,6 @@
 -- What is proved of the layout: reading a sheet gives back what was written.
 use Rattle.std.specs.Prelude.{◌≡◌, ℕ, ◌<◌, List, ◌++◌, length, replicate, Some}
-use Rattle.std.specs.List.{AllByRecursion as All}
+use Rattle.std.specs.List.{AllByRecursion}
 use Rattle.refusal.specs.declared.kind.Kind.{Kind}
 use Rattle.sources.specs.Halves.{Halves, InRange}
 use Rattle.sheets.specs.Bits.{bits_of}
@@ -9,7 +9,7 @@ use Rattle.sheets.specs.Layout.{encode, decode}
 -- halves that a sheet can hold: in range, and at most 8,191 of each kind
 pub record Sheetable (seat : ℕ) (g : Halves) : Type 0 where
   pub low : seat < 2
-  pub ranges : (k : Kind) → All (InRange seat k) (g k)
+  pub ranges : (k : Kind) → AllByRecursion (InRange seat k) (g k)
   pub few : (k : Kind) → length (g k) < 8192
 
 -- the bytes are the sheet: its bits, and fewer than 8 zero bits that fill the last byte

@@ -1,6 +1,6 @@
 // The interface of a source of halves.
 ghost use Rattle.std.specs.Prelude.{◌≡◌, ℕ, ◌-◌, ◌<◌, ◌≤◌, MatchResult};
-ghost use Rattle.std.specs.List.{AllByRecursion as All};
+ghost use Rattle.std.specs.List.{AllByRecursion};
 ghost use Rattle.refusal.specs.declared.kind.Kind.{Kind as KindOf};
 ghost use Rattle.refusal.specs.declared.refusal.Layer.{Layer as LayerOf};
 ghost use Rattle.refusal.specs.Refusals.{code, short};
@@ -46,7 +46,7 @@ pub trait Source {
     ghost layer: { Self → KindOf → LayerOf };
 
     // Each field of each half is in range: what every `impl` proves.
-    ghost ranges: { (s : Self) (k : KindOf) → All (InRange (owner s) k) (left s k) };
+    ghost ranges: { (s : Self) (k : KindOf) → AllByRecursion (InRange (owner s) k) (left s k) };
 
     fn seat(&self) -> u8
         ensures is { result ≡ owner self.now }
