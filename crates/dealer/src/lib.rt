@@ -1,4 +1,5 @@
 // A deterministic source: halves made from a start number, for examinations and samples.
 #![tactic(auto)]
+
 pub mod dealer;
 mod running;

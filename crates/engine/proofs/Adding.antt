@@ -1,5 +1,5 @@
 -- What is done to each party's share alone: handing in, sums, differences, multiples.
-use Rattle.std.proofs.Common.{◌≡◌, ℕ, zero, suc, ◌+◌, ◌-◌, ◌*◌, ◌%◌, ◌^◌, ◌<◌, ◌≤◌, sym, ap, ◌∙◌, subst, ap₂, inl, inr, mod-lt, mod-eq_of_lt, add-mul, mul-zero, mul-suc, arith, pow_pos}
+use Rattle.std.proofs.Common.{◌≡◌, ℕ, zero, suc, ◌+◌, ◌-◌, ◌*◌, ◌%◌, ◌^◌, ◌<◌, ◌≤◌, sym, ap, ◌∙◌, ap₂, inl, inr, mod-lt, mod-eq_of_lt, add-mul, mul-zero, mul-suc, arith, pow_pos}
 use native.Mathlib.Nat.{add-mod, mod-mod, add-mod_left}
 use Rattle.std.proofs.lemmas.Bool.{cases_lt}
 use Rattle.gadgets.specs.Shares.{SharedNumber}

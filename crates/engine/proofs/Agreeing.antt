@@ -1,8 +1,8 @@
 -- The courses of each command go together, whatever the lookups give, and leave the parties alongside each other.
-use Rattle.std.proofs.Common.{◌≡◌, ℕ, ◌+◌, ◌-◌, ◌*◌, ◌%◌, ◌^◌, ◌<◌, Bool, true, false, cond, eqb, List, sym, refl, ap, ◌∙◌, subst, mod-lt, pow_pos}
+use Rattle.std.proofs.Common.{◌≡◌, ℕ, ◌+◌, ◌-◌, ◌*◌, ◌%◌, ◌^◌, ◌<◌, Bool, true, false, cond, eqb, List, sym, refl, subst, mod-lt, pow_pos}
 use Rattle.refusal.specs.declared.kind.Kind.{Kind}
 use Rattle.protocol.specs.Seats.{Seat, seat_0, seat_1, other, number}
-use Rattle.protocol.specs.Course.{Course, done, then, Follows, Matched, ends, looks, says, hears}
+use Rattle.protocol.specs.Course.{Course, done, then, Follows, Matched, ends, says, hears}
 use Rattle.protocol.specs.Session.{Agrees}
 use Rattle.protocol.proofs.Binding.{then_matched, follows_matched}
 use Rattle.gadgets.proofs.Comparison.{comparison_follows}
@@ -16,10 +16,10 @@ use Rattle.engine.specs.declared.command.Command.TheVariants.{Lodge, Add, Subtra
 use Rattle.engine.specs.declared.command.Numbers.{Numbers}
 use Rattle.engine.specs.declared.command.Receipt.{Receipt}
 use Rattle.engine.specs.Commands.{told, seat_of}
-use Rattle.engine.specs.State.{Shape, Public, Registers, Local, Answer, registers}
+use Rattle.engine.specs.State.{Shape, Public, Registers, Local, Answer}
 use Rattle.engine.specs.Judge.{Verdict, refuse, accept, judge}
-use Rattle.engine.specs.Performing.{Effect, number_in, bit_in, learns, nothing, disclose, perform, settled, turned_away, attempt, course}
-use Rattle.engine.specs.Promise.{InRange, Alongside, course_of}
+use Rattle.engine.specs.Performing.{Effect, number_in, bit_in, learns, nothing, disclose, perform, settled, attempt}
+use Rattle.engine.specs.Promise.{Alongside, course_of}
 use Rattle.engine.proofs.Judging.{judge_told}
 
 -- the two parties do the same, each with a share in range

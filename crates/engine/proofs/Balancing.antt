@@ -1,15 +1,14 @@
 -- Receipts and what is left make up what there was, whatever the deal.
-use Rattle.std.proofs.Common.{◌≡◌, ℕ, ◌+◌, ◌-◌, ◌≤◌, List, [], ◌∷◌, refl, arith}
+use Rattle.std.proofs.Common.{◌≡◌, ℕ, ◌+◌, ◌≤◌, refl, arith}
 use Rattle.refusal.specs.declared.kind.Kind.{Kind}
 use Rattle.protocol.specs.Seats.{Seat}
-use Rattle.protocol.specs.Course.{Course, done}
 use Rattle.protocol.proofs.Endings.{Always, ends, always_then}
 use Rattle.engine.specs.declared.command.Command.{Command}
 use Rattle.engine.specs.declared.command.Receipt.{Receipt}
 use Rattle.engine.specs.State.{needs, spent, carried, Local, registers}
 use Rattle.engine.specs.Judge.{Verdict, refuse, accept, judge}
 use Rattle.engine.specs.Performing.{Effect, number_in, bit_in, learns, nothing, perform, settled, attempt, course}
-use Rattle.engine.proofs.Judging.{Accepted, accepted}
+use Rattle.engine.proofs.Judging.{accepted}
 
 -- of n halves of each kind and m messages
 pub record Balanced (f : Seat) (n : Kind → ℕ) (m : ℕ) (a : Local) : Type 0 where

@@ -1,5 +1,5 @@
 -- The receipts that the ideal functionality answers add up to the prices of what it accepted.
-use Rattle.std.proofs.Common.{◌≡◌, ℕ, ◌+◌, List, [], ◌∷◌, sym, refl, ap, ◌∙◌, arith}
+use Rattle.std.proofs.Common.{◌≡◌, ℕ, ◌+◌, List, [], ◌∷◌, refl, ap, arith}
 use Rattle.refusal.specs.declared.kind.Kind.{Kind}
 use Rattle.protocol.specs.Seats.{Seat, seat_0, seat_1}
 use Rattle.protocol.specs.Certificate.{steps}

@@ -1,10 +1,10 @@
 -- The certificate, from what each command shows.
-use Rattle.std.proofs.Common.{◌≡◌, ℕ, ◌+◌, ◌^◌, ◌<◌, ◌≤◌, List, [], ◌∷◌, length, sym, refl, ap, ◌∙◌, subst, arith, pow_pos}
+use Rattle.std.proofs.Common.{◌≡◌, ◌+◌, ◌^◌, ◌<◌, ◌≤◌, List, length, sym, refl, ap, ◌∙◌, subst, arith, pow_pos}
 use native.Mathlib.Nat.{zero-mod}
 use Rattle.refusal.specs.declared.kind.Kind.{Kind}
 use Rattle.sources.specs.Halves.{Halves}
 use Rattle.protocol.specs.Seats.{Seat, seat_0, seat_1, other, LawfulAt}
-use Rattle.protocol.specs.Run.{Outcome, messages}
+use Rattle.protocol.specs.Run.{messages}
 use Rattle.protocol.specs.Theorems.{Sound}
 use Rattle.protocol.specs.Certificate.{steps, Certified}
 use Rattle.protocol.proofs.Rows.{session_flipped}
@@ -13,10 +13,10 @@ use Rattle.protocol.proofs.Certifying.{certified}
 use Rattle.engine.specs.declared.command.Command.{Command}
 use Rattle.engine.specs.declared.command.Numbers.{Numbers}
 use Rattle.engine.specs.Commands.{told}
-use Rattle.engine.specs.State.{spent, carried, Answer, Public, Local}
+use Rattle.engine.specs.State.{spent, carried, Public, Local}
 use Rattle.engine.specs.Performing.{course}
 use Rattle.engine.specs.Ideal.{Ideal, step, shown, bill, message_bill, Shared, SharedAt}
-use Rattle.engine.specs.Promise.{InRange, Alongside, left_at, budget_of, course_of, CommandsStand, Start, fresh, fresh_party, played, Certificate, EngineCertified}
+use Rattle.engine.specs.Promise.{Alongside, left_at, budget_of, course_of, CommandsStand, Start, fresh, fresh_party, played, Certificate, EngineCertified}
 use Rattle.engine.proofs.Computing.{computes_at}
 use Rattle.engine.proofs.Pricing.{spends, talks}
 use Rattle.engine.proofs.Agreeing.{agrees}

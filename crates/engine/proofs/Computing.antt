@@ -1,6 +1,6 @@
 -- Every command takes shares of the ideal functionality's values to shares of its next values.
-use Rattle.std.proofs.Common.{◌≡◌, ℕ, ◌+◌, ◌-◌, ◌%◌, ◌^◌, ◌<◌, ◌≤◌, Bool, true, cond, eqb, ltb, leb, sym, refl, ap, ◌∙◌, subst, mod-lt, add_comm, arith, pow_pos}
-use lib.Bits.{bit_xor, xor_comm}
+use Rattle.std.proofs.Common.{◌≡◌, ℕ, ◌-◌, ◌%◌, ◌^◌, ◌<◌, ◌≤◌, Bool, true, eqb, leb, sym, refl, ap, ◌∙◌, subst, mod-lt, add_comm, arith, pow_pos}
+use lib.Bits.{xor_comm}
 use Rattle.std.proofs.lemmas.Bool.{ltb-true, leb-true, eqb-true}
 use Rattle.arithmetic.specs.Bits.{bit}
 use Rattle.protocol.specs.Seats.{Seat, seat_0, seat_1, other}
@@ -17,12 +17,11 @@ use Rattle.gadgets.proofs.Shift.{shift_computes}
 use Rattle.engine.specs.declared.command.Command.{Command}
 use Rattle.engine.specs.declared.command.Command.TheVariants.{Lodge, Add, Subtract, Scale, Less, Sign, Both, Keep, Divide, Shift, Open, Tell}
 use Rattle.engine.specs.declared.command.Numbers.{Numbers}
-use Rattle.engine.specs.declared.command.Receipt.{Receipt}
 use Rattle.engine.specs.Commands.{told, seat_of}
-use Rattle.engine.specs.State.{Shape, Local, registers}
+use Rattle.engine.specs.State.{Local, registers}
 use Rattle.engine.specs.Judge.{Verdict, refuse, accept, judge}
-use Rattle.engine.specs.Performing.{Effect, number_in, bit_in, disclose, perform, settled, attempt, course}
-use Rattle.engine.specs.Ideal.{Ideal, Meaning, sets, flags, opens, meaning, ruled, step, party, MakeUp, Shared, SharedAt}
+use Rattle.engine.specs.Performing.{number_in, bit_in, disclose, perform, attempt, course}
+use Rattle.engine.specs.Ideal.{Ideal, sets, flags, opens, meaning, ruled, step, party, MakeUp, Shared, SharedAt}
 use Rattle.engine.proofs.Judging.{Fitting, accepted, and_true, judge_told}
 use Rattle.engine.proofs.Adding.{lodged, added, subtracted, scaled}
 use Rattle.engine.proofs.Settling.{Realises, shared_number, shared_bit, learnt_0, learnt_1, settles, stays}

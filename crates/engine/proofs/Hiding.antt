@@ -1,5 +1,5 @@
 -- A party learns no more than what is opened to it.
-use Rattle.std.proofs.Common.{◌≡◌, ℕ, ◌+◌, ◌-◌, ◌%◌, ◌^◌, ◌<◌, ◌≤◌, Bool, true, false, ◌⊎◌, List, [], ◌∷◌, sym, refl, ap, ◌∙◌, subst, ap₂, inl, inr, mod-eq_of_lt, add_comm, arith}
+use Rattle.std.proofs.Common.{◌≡◌, ℕ, ◌+◌, ◌-◌, ◌%◌, ◌^◌, ◌<◌, ◌≤◌, Bool, true, false, ◌⊎◌, sym, refl, ap, ◌∙◌, subst, ap₂, inl, inr, mod-eq_of_lt, add_comm, arith}
 use mathlib.Core.List.{head-eq_of_cons-eq}
 use native.Mathlib.Nat.{add-mod_left}
 use lib.Bits.{bit_xor, xor_comm}
@@ -19,8 +19,8 @@ use Rattle.engine.specs.declared.command.Receipt.{Receipt}
 use Rattle.engine.specs.Commands.{told, seat_of}
 use Rattle.engine.specs.State.{Public, Local, registers}
 use Rattle.engine.specs.Judge.{Verdict, refuse, accept, judge}
-use Rattle.engine.specs.Performing.{Effect, learns, nothing, disclose, perform, settled, attempt, course}
-use Rattle.engine.specs.Ideal.{Ideal, Meaning, opens, meaning, step, opened_to, revealed, shown_by, shown, SharedAt}
+use Rattle.engine.specs.Performing.{disclose, perform, settled, attempt, course}
+use Rattle.engine.specs.Ideal.{Ideal, opens, meaning, step, opened_to, revealed, shown_by, shown, SharedAt}
 use Rattle.engine.specs.Promise.{Alongside, left_at, budget_of, course_of}
 use Rattle.engine.proofs.Judging.{judge_told}
 use Rattle.engine.proofs.Pricing.{quiet, not_quiet, unheard}

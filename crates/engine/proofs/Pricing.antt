@@ -1,13 +1,12 @@
 -- Every command uses just what its price says, of each kind and of messages.
-use Rattle.std.proofs.Common.{◌≡◌, ℕ, suc, ◌+◌, ◌-◌, ◌*◌, ◌≤◌, Bool, true, false, cond, List, [], ◌∷◌, ◌++◌, length, sym, refl, ap, ◌∙◌, subst, append-nil, zero-add, arith}
+use Rattle.std.proofs.Common.{◌≡◌, ℕ, ◌+◌, ◌-◌, Bool, true, false, cond, List, [], ◌∷◌, length, sym, refl, ap, ◌∙◌, subst, append-nil, zero-add, arith}
 use Rattle.refusal.specs.declared.kind.Kind.{Kind}
 use Rattle.refusal.specs.declared.kind.Kind.TheVariants.{Bit, Ring0, Ring1}
 use Rattle.protocol.specs.Seats.{Seat, seat_0, seat_1, number}
-use Rattle.protocol.specs.Course.{Course, done, then, Follows, tally, Spends, Talks, Unheard, ends, looks, says}
+use Rattle.protocol.specs.Course.{Course, done, then, Follows, tally, Spends, Talks, Unheard, ends}
 use Rattle.protocol.proofs.Binding.{then_follows, then_spends, then_talks, follows_spends, follows_talks, follows_unheard}
 use Rattle.protocol.proofs.Rows.{spends_same}
 use Rattle.gadgets.specs.Prices.{prices, Tallies}
-use Rattle.gadgets.specs.Comparison.{comparison_kinds, comparison_price}
 use Rattle.gadgets.proofs.Prices.{tallies_none}
 use Rattle.gadgets.proofs.Comparison.{comparison_follows, comparison_tallies}
 use Rattle.gadgets.proofs.Sign.{sign_follows}
@@ -23,7 +22,7 @@ use Rattle.engine.specs.State.{needs, Registers, Local, registers}
 use Rattle.engine.specs.Judge.{Verdict, refuse, accept, lookups, one_message, price, judge}
 use Rattle.engine.specs.Performing.{Effect, number_in, bit_in, learns, nothing, disclose, perform, settled, attempt, course}
 use Rattle.engine.specs.Promise.{left_at, budget_of}
-use Rattle.engine.proofs.Judging.{Accepted, accepted}
+use Rattle.engine.proofs.Judging.{accepted}
 
 -- A list of lookups as a receipt.
 

@@ -4,7 +4,6 @@ use Rattle.refusal.specs.Refusals.{Code}
 use Rattle.protocol.specs.Seats.{seat_0, seat_1}
 use Rattle.gadgets.specs.Shares.{SharedBit, SharedNumber}
 use Rattle.engine.specs.declared.command.Receipt.{Receipt}
-use Rattle.engine.specs.State.{Local}
 use Rattle.engine.specs.Performing.{Effect, number_in, bit_in, learns, nothing, settled, turned_away}
 use Rattle.engine.specs.Ideal.{Ideal, Meaning, sets, flags, opens, carried_out, turns_away, party, MakeUp, Shared}
 

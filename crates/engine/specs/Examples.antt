@@ -1,14 +1,13 @@
 -- Worked examples: the twelve splits, refusals in their order, and a session played by the parties' own courses.
 use Rattle.std.specs.Prelude.{◌≡◌, ℕ, ◌+◌, false, List, [], ◌∷◌, map, replicate}
-use Rattle.refusal.specs.declared.kind.Kind.{Kind}
 use Rattle.refusal.specs.declared.kind.Kind.TheVariants.{Bit, Ring0, Ring1}
 use Rattle.refusal.specs.Refusals.{Code, plain}
 use Rattle.sources.specs.Halves.{Half, Halves}
 use Rattle.protocol.specs.Seats.{seat_0, seat_1, number}
-use Rattle.protocol.specs.Certificate.{steps, shown_by}
+use Rattle.protocol.specs.Certificate.{shown_by}
 use Rattle.gadgets.specs.Prices.{prices}
 use Rattle.engine.specs.declared.command.Command.{Command}
-use Rattle.engine.specs.declared.command.Command.TheVariants.{Lodge, Add, Less, Sign, Divide, Shift, Open, Tell}
+use Rattle.engine.specs.declared.command.Command.TheVariants.{Lodge, Less, Sign, Divide, Shift, Open, Tell}
 use Rattle.engine.specs.declared.command.Numbers.{Numbers}
 use Rattle.engine.specs.State.{Answer, refused, receipt, opened, Public}
 use Rattle.engine.specs.Judge.{lookups, free, one_message, correlations_short, budget_short}

@@ -1,5 +1,5 @@
 -- The course of each command at a party, by its own registers, and what becomes of the party.
-use Rattle.std.specs.Prelude.{ℕ, ◌+◌, ◌-◌, ◌*◌, ◌%◌, ◌^◌, List, [], ◌∷◌, bit_xor}
+use Rattle.std.specs.Prelude.{ℕ, ◌+◌, ◌-◌, ◌*◌, ◌%◌, ◌^◌, ◌∷◌, bit_xor}
 use Rattle.refusal.specs.Refusals.{Code}
 use Rattle.protocol.specs.Seats.{Seat, seat_0, seat_1, number}
 use Rattle.protocol.specs.Course.{Course, done, say, hear, then}
@@ -13,7 +13,7 @@ use Rattle.engine.specs.declared.command.Command.{Command}
 use Rattle.engine.specs.declared.command.Command.TheVariants.{Lodge, Add, Subtract, Scale, Less, Sign, Both, Keep, Divide, Shift, Open, Tell}
 use Rattle.engine.specs.declared.command.Receipt.{Receipt}
 use Rattle.engine.specs.Commands.{seat_of}
-use Rattle.engine.specs.State.{Answer, refused, receipt, opened, Shape, Registers, Local, registers, put, with_number, with_bit, with_shape, lowered}
+use Rattle.engine.specs.State.{refused, receipt, opened, Registers, Local, registers, put, with_number, with_bit, with_shape, lowered}
 use Rattle.engine.specs.Judge.{Verdict, refuse, accept, judge}
 
 -- what a command does to a party: it fills a number register or a bit register, learns a value that is opened to it, or nothing

@@ -1,5 +1,5 @@
 -- What the engine promises.
-use Rattle.std.specs.Prelude.{◌≡◌, ℕ, ◌+◌, ◌^◌, ◌<◌, ◌≤◌, Bool, false, List, [], map, length}
+use Rattle.std.specs.Prelude.{◌≡◌, ℕ, ◌+◌, ◌^◌, ◌<◌, ◌≤◌, false, List, [], map, length}
 use Rattle.refusal.specs.declared.kind.Kind.{Kind}
 use Rattle.lookup.specs.Once.{ExactlyOne}
 use Rattle.sources.specs.Halves.{Halves}

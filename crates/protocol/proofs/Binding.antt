@@ -1,7 +1,6 @@
 -- One course after another, in each of the relations; and what a list of lookups gives.
-use Rattle.std.proofs.Common.{◌≡◌, ℕ, suc, ◌+◌, ◌*◌, ◌<◌, List, [], ◌∷◌, ◌++◌, length, refl, ap, ◌∙◌, subst, zero-add, arith}
+use Rattle.std.proofs.Common.{◌≡◌, ℕ, ◌+◌, ◌*◌, List, ◌++◌, length, subst, zero-add, arith}
 use Rattle.refusal.specs.declared.kind.Kind.{Kind}
-use Rattle.refusal.specs.Kinds.{on}
 use Rattle.protocol.specs.Seats.{Seat}
 use Rattle.protocol.specs.Course.{Course, done, look, say, hear, then, Computes, Alike, Matched, Unheard, Follows, ends, looks, says, hears, tally, Spends, Talks}
 use Rattle.protocol.proofs.Supplies.{on_plus}

@@ -10,7 +10,7 @@ use Rattle.protocol.specs.Course.{Course, hear, say, then, Computes, Alike, Unhe
 use Rattle.protocol.specs.Run.{Outcome, messages, run}
 use Rattle.protocol.specs.Theorems.{Sound, ExplainsBefore}
 use Rattle.protocol.specs.Session.{in_a_row, session}
-use Rattle.protocol.specs.Certificate.{steps, shown_by, Engine, Certified, played}
+use Rattle.protocol.specs.Certificate.{steps, shown_by, Engine, Certified}
 use Rattle.protocol.proofs.Binding.{then_alike}
 use Rattle.protocol.proofs.Running.{account, message_account, soundness}
 use Rattle.protocol.proofs.Silent.{silence, alike_of}

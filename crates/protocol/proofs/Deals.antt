@@ -1,15 +1,15 @@
 -- There are lawful deals.
-use Rattle.std.proofs.Common.{◌≡◌, ℕ, zero, suc, ◌+◌, ◌<◌, Bool, true, false, List, [], ◌∷◌, length, get_or, replicate, sym, refl, ap, ◌∙◌, subst, arith}
+use Rattle.std.proofs.Common.{ℕ, zero, suc, ◌+◌, ◌<◌, Bool, true, false, [], ◌∷◌, replicate, sym, refl, ap, ◌∙◌, subst, arith}
 use Rattle.std.specs.List.{AllZip}
 use Rattle.std.proofs.lemmas.List.{length-replicate, get_or-replicate, length_push}
 use Rattle.refusal.specs.declared.kind.Kind.{Kind}
 use Rattle.refusal.specs.declared.kind.Kind.TheVariants.{Bit, Ring0, Ring1}
 use Rattle.refusal.specs.Kinds.{entries}
-use Rattle.lookup.specs.Lookup.{Sender, Receiver, SenderSound, Fit}
+use Rattle.lookup.specs.Lookup.{Sender, SenderSound, Fit}
 use Rattle.sources.specs.Halves.{Half, operation}
-use Rattle.protocol.specs.Seats.{Seat, sends, Correlated, Paired}
+use Rattle.protocol.specs.Seats.{sends, Correlated, Paired}
 use Rattle.protocol.specs.Theorems.{DealsExist}
-use Rattle.protocol.proofs.Lookups.{laws, sender_row, sender_back}
+use Rattle.protocol.proofs.Lookups.{sender_row, sender_back}
 
 -- halves of noughts
 

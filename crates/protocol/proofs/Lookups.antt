@@ -1,20 +1,20 @@
 -- One lookup over rows of words, as the party at either seat sees it.
-use Rattle.std.proofs.Common.{◌≡◌, ℕ, ◌+◌, ◌-◌, ◌<◌, ◌≤◌, Bool, true, false, List, [], ◌∷◌, ◌++◌, length, get_or, take, sym, refl, ap, ◌∙◌, subst, arith}
+use Rattle.std.proofs.Common.{◌≡◌, ℕ, ◌+◌, ◌-◌, ◌<◌, ◌≤◌, Bool, true, false, [], ◌∷◌, ◌++◌, length, get_or, take, sym, refl, ap, ◌∙◌, subst, arith}
 use mathlib.Core.List.{head-eq_of_cons-eq}
 use Rattle.std.proofs.lemmas.List.{take_more, take_all, take_at, length_push, get_or_push}
 use Rattle.refusal.specs.declared.kind.Kind.{Kind}
 use Rattle.refusal.specs.declared.kind.Kind.TheVariants.{Bit, Ring0, Ring1}
 use Rattle.refusal.specs.Kinds.{entries}
 use Rattle.lookup.specs.Once.{ExactlyOne}
-use Rattle.lookup.specs.Groups.{Operation, Laws}
+use Rattle.lookup.specs.Groups.{Laws}
 use Rattle.lookup.specs.Lookup.{Sender, Receiver, SenderSound, Fit, request, words, receiver_share}
 use Rattle.lookup.specs.Halves.{sender_from, receiver_from}
 use Rattle.lookup.specs.Instances.{xor_laws, add_laws}
 use Rattle.lookup.proofs.Pairing.{shares_join, words_in, table_hidden, index_hidden}
-use Rattle.sources.specs.Halves.{Half, SenderInRange, ReceiverInRange, operation}
+use Rattle.sources.specs.Halves.{Half, operation}
 use Rattle.protocol.specs.Seats.{Seat, sends, Correlated, Paired}
-use Rattle.protocol.specs.Course.{Ask, AskIn, Shares, Joins}
-use Rattle.protocol.specs.Run.{Turn, sending, turn_by, turn}
+use Rattle.protocol.specs.Course.{Ask, AskIn, Joins}
+use Rattle.protocol.specs.Run.{sending, turn_by, turn}
 use Rattle.protocol.specs.Theorems.{LookupsShare, LookupsHide}
 
 pub laws : (k : Kind) → Laws (operation k)

@@ -1,5 +1,5 @@
 -- What a run takes, leaves and comes to.
-use Rattle.std.proofs.Common.{◌≡◌, ℕ, suc, ◌+◌, ◌≤◌, List, [], ◌∷◌, length, sym, refl, ap, ◌∙◌, subst, ap₂, add-zero, zero-add, arith}
+use Rattle.std.proofs.Common.{◌≡◌, ℕ, suc, ◌≤◌, List, [], ◌∷◌, length, sym, refl, ap, ◌∙◌, subst, ap₂, add-zero, zero-add, arith}
 use mathlib.Core.Path.{fun_ext}
 use Rattle.std.specs.List.{AllZip}
 use Rattle.refusal.specs.declared.kind.Kind.{Kind}
@@ -8,7 +8,7 @@ use Rattle.sources.specs.Halves.{Half, Halves}
 use Rattle.protocol.specs.Seats.{Seat, sends, Paired, LawfulAt, next, rest, front, back, before, Enough}
 use Rattle.protocol.specs.Course.{Ask, Course, done, look, say, hear, Computes, ends, looks, says, hears}
 use Rattle.protocol.specs.Run.{Turn, turn, ask_of, word_of, next_of, Outcome, after_look, after_say, after_hear, run}
-use Rattle.protocol.specs.Theorems.{Sound, SoundnessOf, Account, MessageAccount, Cost}
+use Rattle.protocol.specs.Theorems.{SoundnessOf, Account, MessageAccount, Cost}
 use Rattle.protocol.proofs.Supplies.{next_front, rest_front, some_left, rest_long, rest_back, next_append, rest_append, on_plus, each_first, each_rest, each_drop}
 use Rattle.protocol.proofs.Lookups.{lookups_share}
 

@@ -1,5 +1,5 @@
 -- A run tells a party nothing of what the other does, but for the words that the other says.
-use Rattle.std.proofs.Common.{◌≡◌, ℕ, suc, ◌<◌, ◌≤◌, List, [], ◌∷◌, length, get_or, sym, refl, ap, ◌∙◌, subst, ap₂, arith}
+use Rattle.std.proofs.Common.{◌≡◌, ℕ, suc, ◌<◌, ◌≤◌, [], ◌∷◌, length, get_or, sym, refl, ap, ◌∙◌, subst, ap₂, arith}
 use mathlib.Core.Path.{fun_ext}
 use mathlib.Core.List.{head-eq_of_cons-eq, tail-eq_of_cons-eq}
 use Rattle.std.proofs.lemmas.List.{length-take-le, take_all}
@@ -10,7 +10,7 @@ use Rattle.sources.specs.Halves.{Half, Halves}
 use Rattle.protocol.specs.Seats.{Seat, sends, Paired, LawfulAt, next, rest, front, Enough}
 use Rattle.protocol.specs.Course.{Ask, AskIn, Course, look, Shares, Computes, Alike, ends, looks, says, hears, Unheard}
 use Rattle.protocol.specs.Run.{Turn, turn, Outcome, after_look, run}
-use Rattle.protocol.specs.Theorems.{Explains, Silent, SilenceOf, BothWays}
+use Rattle.protocol.specs.Theorems.{Silent, SilenceOf, BothWays}
 use Rattle.protocol.proofs.Supplies.{push, next_push, rest_push, some_left, rest_exact, each_none, each_empty, each_take, each_long, each_push, each_split}
 use Rattle.protocol.proofs.Lookups.{near_same, lookups_hide, lookups_share}
 use Rattle.protocol.proofs.Running.{Facts, facts, fronts, first_paired, rest_lawful}

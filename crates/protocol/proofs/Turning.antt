@@ -5,7 +5,7 @@ use Rattle.refusal.specs.declared.kind.Kind.TheVariants.{Bit, Ring0, Ring1}
 use Rattle.sources.specs.Halves.{Half, Halves}
 use Rattle.protocol.specs.Seats.{seat_0, seat_1, next, rest}
 use Rattle.protocol.specs.Course.{Ask, Course, Shares, Computes, Matched, ends, looks, says, hears}
-use Rattle.protocol.specs.Run.{Turn, turn, turned, Outcome, after_look, after_say, after_hear, run, flipped}
+use Rattle.protocol.specs.Run.{Turn, turn, turned, after_look, after_say, after_hear, run, flipped}
 use Rattle.protocol.specs.Theorems.{OneRun}
 
 turn_flipped : (k : Kind) (a b : Ask) (x y : Half) → turn seat_1 k b a y x ≡ turned (turn seat_0 k a b x y)

@@ -1,11 +1,11 @@
 -- What lies behind the halves that a run uses does not matter to what explains it.
-use Rattle.std.proofs.Common.{◌≡◌, ℕ, suc, ◌≤◌, List, [], ◌∷◌, length, sym, refl, ap, ◌∙◌, subst, arith, take-append-drop}
+use Rattle.std.proofs.Common.{◌≡◌, ℕ, suc, ◌≤◌, length, sym, refl, ap, ◌∙◌, subst, arith, take-append-drop}
 use mathlib.Core.Path.{fun_ext}
 use mathlib.Core.List.{head-eq_of_cons-eq, tail-eq_of_cons-eq}
 use Rattle.std.proofs.lemmas.List.{length-take-le, take_at}
 use Rattle.refusal.specs.declared.kind.Kind.{Kind}
 use Rattle.refusal.specs.Kinds.{on}
-use Rattle.sources.specs.Halves.{Half, Halves}
+use Rattle.sources.specs.Halves.{Halves}
 use Rattle.protocol.specs.Seats.{Seat, sends, Paired, LawfulAt, next, rest, front, back, before as followed_by, Enough}
 use Rattle.protocol.specs.Course.{Course, look, Shares, Alike, ends, looks, says, hears}
 use Rattle.protocol.specs.Run.{Turn, turn, Outcome, after_look, run}

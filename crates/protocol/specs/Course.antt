@@ -2,7 +2,6 @@
 use Rattle.std.specs.Prelude.{◌≡◌, ℕ, suc, ◌+◌, ◌<◌, Bool, true, false, List, [], ◌∷◌}
 use Rattle.refusal.specs.declared.kind.Kind.{Kind}
 use Rattle.refusal.specs.Kinds.{entries, on}
-use Rattle.lookup.specs.Groups.{Operation}
 use Rattle.lookup.specs.Lookup.{TableIn}
 use Rattle.sources.specs.Halves.{operation}
 use Rattle.protocol.specs.Seats.{Seat, sends}

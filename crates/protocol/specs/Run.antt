@@ -1,5 +1,5 @@
 -- Two parties' courses run against each other over their halves: what each hears, comes to and has left.
-use Rattle.std.specs.Prelude.{ℕ, suc, ◌+◌, Bool, true, false, List, [], ◌∷◌, map, length}
+use Rattle.std.specs.Prelude.{ℕ, suc, ◌+◌, Bool, true, false, List, [], ◌∷◌, length}
 use Rattle.refusal.specs.declared.kind.Kind.{Kind}
 use Rattle.refusal.specs.Kinds.{entries, on}
 use Rattle.lookup.specs.Lookup.{request, words, sender_share, receiver_share}

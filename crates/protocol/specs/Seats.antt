@@ -1,5 +1,5 @@
 -- The two seats, and what is dealt to them.
-use Rattle.std.specs.Prelude.{◌≡◌, ℕ, zero, suc, ◌≤◌, Bool, true, false, List, [], ◌∷◌, ◌++◌, length, take, drop, slice_index_or}
+use Rattle.std.specs.Prelude.{ℕ, ◌≤◌, Bool, true, false, [], ◌++◌, length, take, drop, slice_index_or}
 use mathlib.Core.List.{tail}
 use Rattle.std.specs.List.{AllZip}
 use Rattle.refusal.specs.declared.kind.Kind.{Kind}

@@ -1,9 +1,8 @@
 -- Commands one after the other: a session.
-use Rattle.std.specs.Prelude.{◌≡◌, ℕ, ◌+◌, Bool, T, List, [], ◌∷◌, ◌++◌}
-use Rattle.refusal.specs.declared.kind.Kind.{Kind}
+use Rattle.std.specs.Prelude.{◌≡◌, ◌+◌, Bool, T, List, [], ◌∷◌, ◌++◌}
 use Rattle.sources.specs.Halves.{Halves}
 use Rattle.protocol.specs.Seats.{Seat, seat_0, seat_1}
-use Rattle.protocol.specs.Course.{Course, done, then, Computes, Matched, Spends}
+use Rattle.protocol.specs.Course.{Course, done, then, Matched}
 use Rattle.protocol.specs.Run.{Outcome, run, flipped}
 
 -- A command of C is, to a party with the local state a, a course that ends in its new local state. The commands in their

@@ -1,5 +1,5 @@
 -- What is proved of a run of two courses.
-use Rattle.std.specs.Prelude.{◌≡◌, ℕ, ◌+◌, Bool, T, List, [], ◌∷◌, length}
+use Rattle.std.specs.Prelude.{◌≡◌, ℕ, ◌+◌, Bool, T, length}
 use Rattle.refusal.specs.declared.kind.Kind.{Kind}
 use Rattle.lookup.specs.Once.{ExactlyOne}
 use Rattle.sources.specs.Halves.{Half, Halves}

@@ -1,5 +1,6 @@
 // The engine's common vocabulary: kinds of correlation, one value for each kind, and refusals.
 #![tactic(auto)]
+
 pub mod kind;
 pub mod per_kind;
 pub mod refusal;

@@ -1,4 +1,5 @@
 // Writing deal sheets: any source drained into the caller's bytes.
 #![tactic(auto)]
+
 mod pen;
 pub mod writer;

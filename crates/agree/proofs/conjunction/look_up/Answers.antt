@@ -1,7 +1,7 @@
 use Rattle.std.proofs.Common.{◌≡◌, ◌%◌, map, length, ap, ◌∙◌, ap₂}
 use Rattle.std.specs.List.{range_with_len}
 use Rattle.lookup.specs.Groups.{xor}
-use Rattle.lookup.specs.Lookup.{Sender, entry_of, request, word, words, sender_share, receiver_share}
+use Rattle.lookup.specs.Lookup.{Sender, entry_of, request, word, sender_share, receiver_share}
 use Rattle.lookup.specs.Halves.{sender_of, receiver_of, sender_from, receiver_from}
 use Rattle.agree.specs.Conjunction.{table, index}
 use Rattle.agree.proofs.Conjoining.{conjoined}

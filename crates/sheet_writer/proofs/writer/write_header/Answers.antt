@@ -1,6 +1,6 @@
 use Rattle.std.proofs.Common.{◌≡◌, ◌+◌, ◌++◌, drop, ap, ◌∙◌, subst, arith}
 use Rattle.sheets.specs.Bits.{bits}
-use Rattle.sheet_writer.specs.Pens.{written, place}
+use Rattle.sheet_writer.specs.Pens.{place}
 use Rattle.sheet_writer.specs.Writing.{header_bits}
 use Rattle.sheet_writer.proofs.Strokes.{pushed_then}
 use Rattle.sheet_writer.proofs.Writing.{written_fresh}

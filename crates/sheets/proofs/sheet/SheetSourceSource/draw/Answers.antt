@@ -1,4 +1,4 @@
-use Rattle.std.proofs.Common.{◌≡◌, ◌+◌, ◌-◌, ◌<◌, ◌≤◌, length, take, drop, sym, refl, ap, ◌∙◌, subst, ap₂, arith}
+use Rattle.std.proofs.Common.{◌≡◌, ◌+◌, ◌<◌, ◌≤◌, length, take, drop, sym, refl, ap, ◌∙◌, subst, ap₂, arith}
 use Rattle.refusal.specs.Kinds.{kind_of}
 use Rattle.refusal.specs.PerKinds.{at, with_at}
 use Rattle.sources.specs.Halves.{width}
