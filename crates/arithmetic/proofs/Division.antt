@@ -6,7 +6,7 @@ use lib.Signed.{le_z}
 use Rattle.std.proofs.lemmas.Int.{ints}
 use Rattle.std.proofs.lemmas.Bool.Decides.{nat_tests}
 use Rattle.arithmetic.specs.Bits.{bit}
-use Rattle.arithmetic.specs.Sign.{top, sum, not_negative, signed, flip, flip_of}
+use Rattle.arithmetic.specs.Sign.{top, shared_value, not_negative, signed, flip, flip_of}
 use Rattle.arithmetic.specs.Division.{floor, remainder, excess, steps}
 use Rattle.arithmetic.specs.Theorems.{ExcessBounded, QuotientsAdd, ShiftsAdd}
 use Rattle.arithmetic.proofs.Sign.{signed_shares_add}
@@ -48,14 +48,14 @@ excess_at r u k d x y g hr hu hk = grind (arith, ints)
 
 pub excess_bounded : ExcessBounded
 excess_bounded w d a b h =
-    excess_at (remainder (signed w a) d) (remainder (signed w b) d) (2 ^ w % d) d (top w a) (top w b) (not_negative w (sum w a b))
+    excess_at (remainder (signed w a) d) (remainder (signed w b) d) (2 ^ w % d) d (top w a) (top w b) (not_negative w (shared_value w a b))
     (floor_exact (signed w a) d h).1 (floor_exact (signed w b) d h).1 (mod-lt (2 ^ w) h)
 
 pub quotients_add : QuotientsAdd
 quotients_add w d a b p h ha hb =
     let s = signed w a in
     let t = signed w b in
-    let v = signed w (sum w a b) in
+    let v = signed w (shared_value w a b) in
     let f = flip_of w a b in
     let bounds = excess_bounded w d a b h in
     climbed ((floor s d +ℤ floor t d) -ℤ f *ℤ pos (2 ^ w / d)) (excess w d a b) v d

@@ -3,7 +3,7 @@ use Rattle.std.proofs.Common.{◌≡◌, ℕ, zero, suc, ◌+◌, ◌*◌, ◌^�
 use lib.Signed.{le_z}
 use Rattle.std.proofs.lemmas.Int.{ints}
 use Rattle.std.proofs.lemmas.Bool.{leb-true, leb-false, cases_lt}
-use Rattle.arithmetic.specs.Sign.{sum, not_negative, signed}
+use Rattle.arithmetic.specs.Sign.{shared_value, not_negative, signed}
 use Rattle.arithmetic.specs.Division.{remainder, excess}
 use Rattle.arithmetic.specs.Tests.{least, test_width}
 use Rattle.arithmetic.specs.Theorems.{TestsRead, TestWidthLeast}
@@ -34,7 +34,7 @@ read_at t d e c v h l hc lo hi eq =
 pub tests_read : TestsRead
 tests_read w d a b e j x y h l hj eq =
     let bounds = excess_bounded w d a b h in
-    read_at (excess w d a b) d e (j * d) (sum e x y) h l (mul-le-mul_right d hj) bounds.0 bounds.1 eq
+    read_at (excess w d a b) d e (j * d) (shared_value e x y) h l (mul-le-mul_right d hj) bounds.0 bounds.1 eq
 
 least_fits : (k e n : ℕ) → n ≤ 2 ^ (e + k) → (n ≤ 2 ^ least k e n) × (least k e n ≤ e + k)
 least_fits zero e n h = let s : e + 0 ≡ e = omega arith in (rw s at h, omega arith)

@@ -12,8 +12,8 @@ abbrev pub lower : ℕ → ℕ → ℕ
 lower w a = a % half w
 
 -- the value that two shares stand for
-abbrev pub sum : ℕ → ℕ → ℕ → ℕ
-sum w a b = (a + b) % 2 ^ w
+abbrev pub shared_value : ℕ → ℕ → ℕ → ℕ
+shared_value w a b = (a + b) % 2 ^ w
 
 -- the lower bits of the shares carry into the top bit
 abbrev pub carry : ℕ → ℕ → ℕ → Bool
@@ -38,4 +38,4 @@ flip true true true = negsuc 0
 flip true true false = pos 0
 
 abbrev pub flip_of : ℕ → ℕ → ℕ → ℤ
-flip_of w a b = flip (top w a) (top w b) (not_negative w (sum w a b))
+flip_of w a b = flip (top w a) (top w b) (not_negative w (shared_value w a b))

@@ -1,7 +1,7 @@
 // The running number of a dealer, and the fields that it gives.
 ghost use Rattle.std.specs.Prelude.{◌≡◌, ◌+◌, ◌/◌, ◌^◌, ◌<◌, ◌≤◌, length, take, drop};
 ghost use Rattle.refusal.specs.Kinds.{entries};
-ghost use Rattle.dealer.specs.Running.{step, run, mask_low, choice_low, mask as mask_of, sender_half, receiver_half, half as half_of};
+ghost use Rattle.dealer.specs.Running.{step, run, mask_low, choice_low, mask as dealt_mask, sender_half, receiver_half, half as half_of};
 ghost use Rattle.sources.specs.Halves.{width as width_of};
 
 use refusal::kind::Kind;
@@ -67,7 +67,7 @@ fn after(kind: Kind, x: u64) -> u64
 // Mask `i` of the correlation that begins at x.
 fn mask_at(kind: Kind, x: u64, i: u32) -> u32
     requires { i < 16 }
-    ensures { result ≡ mask_of kind x i }
+    ensures { result ≡ dealt_mask kind x i }
 {
     mask_of(kind, ahead(x, i + 1))
 }

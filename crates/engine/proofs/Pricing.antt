@@ -49,11 +49,11 @@ follows_uses P ks n p t h = record {
 }
 
 -- a protocol, and then what is done with what it gives
-abbrev Any : Effect → Type 0
-Any e = Unit {0}
+abbrev Anything : Effect → Type 0
+Anything e = Unit {0}
 
-pub into : {P : ℕ → Type 0} {ks : List Kind} {p : Course ℕ} (g : ℕ → Effect) → Follows P ks p → Follows Any ks (then p (λ x. done (g x)))
-into {P} {ks} {p} g h = subst (λ l. Follows Any l (then p (λ x. done (g x)))) (append-nil ks) (then_follows P Any h (λ r i. ends tt))
+pub into : {P : ℕ → Type 0} {ks : List Kind} {p : Course ℕ} (g : ℕ → Effect) → Follows P ks p → Follows Anything ks (then p (λ x. done (g x)))
+into {P} {ks} {p} g h = subst (λ l. Follows Anything l (then p (λ x. done (g x)))) (append-nil ks) (then_follows P Anything h (λ r i. ends tt))
 
 -- the list of lookups of a command, which opens nothing
 pub record Plan (q : Receipt) (p : Course Effect) : Type 0 where
@@ -61,10 +61,10 @@ pub record Plan (q : Receipt) (p : Course Effect) : Type 0 where
   pub counts : Kind → ℕ
   pub priced : q ≡ lookups counts
   pub tallies : Tallies kinds counts
-  pub follows : Follows Any kinds p
+  pub follows : Follows Anything kinds p
 
 plan_uses : {q : Receipt} {p : Course Effect} → Plan q p → Uses q p
-plan_uses {q} {p} l = subst (λ x. Uses x p) (sym l.priced) (follows_uses Any l.kinds l.counts p l.tallies l.follows)
+plan_uses {q} {p} l = subst (λ x. Uses x p) (sym l.priced) (follows_uses Anything l.kinds l.counts p l.tallies l.follows)
 
 -- opens no value
 abbrev pub quiet : {N : Type 0} → Command N → Bool
@@ -130,7 +130,7 @@ unheard f c a z = go (judge c a.public)
   where
     go : (v : Verdict) → Unheard (attempt f c a v)
     go (refuse r) = ends
-    go (accept q) = follows_unheard (λ _. Unit {0}) (then_follows Any (λ _. Unit {0}) (planned f (registers a) c z).follows (λ e i. ends tt))
+    go (accept q) = follows_unheard (λ _. Unit {0}) (then_follows Anything (λ _. Unit {0}) (planned f (registers a) c z).follows (λ e i. ends tt))
 
 -- in a session: the party's counts go down by the price
 

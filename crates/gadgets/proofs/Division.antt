@@ -4,7 +4,7 @@ use lib.Signed.{le_z}
 use Rattle.std.proofs.lemmas.Int.{ints}
 use Rattle.std.proofs.lemmas.Bool.{eqb-true}
 use Rattle.arithmetic.specs.Bits.{bit}
-use Rattle.arithmetic.specs.Sign.{sum, not_negative, signed, flip_of}
+use Rattle.arithmetic.specs.Sign.{shared_value, not_negative, signed, flip_of}
 use Rattle.arithmetic.specs.Division.{floor, remainder, excess, steps}
 use Rattle.arithmetic.specs.Tests.{test_width}
 use Rattle.arithmetic.proofs.Integers.{floor_exact, mul_sum, mul_neg, floor_one}
@@ -43,9 +43,9 @@ test_computes w d a b f g j k p l hj ef =
     = test_linear (remainder (signed w a) d) (remainder (signed w b) d) (j * d) (pos f *ℤ pos n0) (pos g *ℤ pos n0) (flip_of w a b *ℤ pos n0) (m *ℤ pos (2 ^ e))
     (scaled (pos f) (pos g) (flip_of w a b) k e n0 (test_width_below d l) ef) ∙ ap (λ z. (excess w d a b -ℤ pos (j * d)) +ℤ z) (sym (mul_neg m (2 ^ e))) in
     let sh = joined e x y (excess w d a b -ℤ pos (j * d)) (neg_ℤ m) s in
-    let t : not_negative e (sum e (remainder x (2 ^ e)) (remainder y (2 ^ e))) ≡ le_z (pos (j * d)) (excess w d a b)
+    let t : not_negative e (shared_value e (remainder x (2 ^ e)) (remainder y (2 ^ e))) ≡ le_z (pos (j * d)) (excess w d a b)
     = tests_read w d a b e j (remainder x (2 ^ e)) (remainder y (2 ^ e)) p h hj sh.adds in
-    let sg = sign_computes e (remainder x (2 ^ e)) (remainder y (2 ^ e)) (sum e (remainder x (2 ^ e)) (remainder y (2 ^ e))) (wide e d p h) (record { below_0 = sh.below_0; below_1 = sh.below_1; adds = refl }) in
+    let sg = sign_computes e (remainder x (2 ^ e)) (remainder y (2 ^ e)) (shared_value e (remainder x (2 ^ e)) (remainder y (2 ^ e))) (wide e d p h) (record { below_0 = sh.below_0; below_1 = sh.below_1; adds = refl }) in
     then_computes seat_0 (λ b0 b1. SharedBit b0 b1 (le_z (pos (j * d)) (excess w d a b))) (λ m n. SharedNumber 32 m n (bit (le_z (pos (j * d)) (excess w d a b))))
     (subst (λ z. Computes seat_0 (λ b0 b1. SharedBit b0 b1 z) (sign 0 e (remainder x (2 ^ e))) (sign 1 e (remainder y (2 ^ e)))) t sg)
     (λ b0 b1 sb. conversion_computes b0 b1 (le_z (pos (j * d)) (excess w d a b)) sb)
@@ -64,7 +64,7 @@ spread m a b c n = rw (mul_sum, mul_sum, mul_sum, mul_neg) refl
 quotient_shared : (w d a b f g : ℕ) (k : ℤ) (x0 y0 x1 y1 x2 y2 : ℕ) → 0 < w → w ≤ 32 → 0 < d → a < 2 ^ w → b < 2 ^ w
     → pos f +ℤ pos g ≡ flip_of w a b +ℤ k *ℤ pos (2 ^ 32)
     → SharedNumber 32 x0 y0 (bit (le_z (pos (0 * d)) (excess w d a b))) → SharedNumber 32 x1 y1 (bit (le_z (pos (1 * d)) (excess w d a b))) → SharedNumber 32 x2 y2 (bit (le_z (pos (2 * d)) (excess w d a b)))
-    → SharedNumber w (quotient_share 0 w d a f x0 x1 x2) (quotient_share 1 w d b g y0 y1 y2) (remainder (floor (signed w (sum w a b)) d) (2 ^ w))
+    → SharedNumber w (quotient_share 0 w d a f x0 x1 x2) (quotient_share 1 w d b g y0 y1 y2) (remainder (floor (signed w (shared_value w a b)) d) (2 ^ w))
 quotient_shared w d a b f g k x0 y0 x1 y1 x2 y2 w0 lw pd ha hb ef s0 s1 s2 =
     let n = 2 ^ w in
     let n1 = 2 ^ w / d in
@@ -89,13 +89,13 @@ quotient_shared w d a b f g k x0 y0 x1 y1 x2 y2 w0 lw pd ha hb ef s0 s1 s2 =
     rw (quotients_add w d a b w0 pd ha hb) (joined w (((q -ℤ pos f *ℤ pos n1) -ℤ pos 1) +ℤ pos (x0 + x1 + x2)) (((p -ℤ pos g *ℤ pos n1) -ℤ pos 0) +ℤ pos (y0 + y1 + y2)) z (neg_ℤ m +ℤ ((b0.0 +ℤ b1.0) +ℤ b2.0)) e)
 
 divided_computes : (w d a b : ℕ) → 1 < w → w ≤ 32 → 0 < d → d < 2 ^ 16 → a < 2 ^ w → b < 2 ^ w
-    → Computes seat_0 (λ m n. SharedNumber w m n (remainder (floor (signed w (sum w a b)) d) (2 ^ w))) (divided 0 w d a) (divided 1 w d b)
+    → Computes seat_0 (λ m n. SharedNumber w m n (remainder (floor (signed w (shared_value w a b)) d) (2 ^ w))) (divided 0 w d a) (divided 1 w d b)
 divided_computes w d a b hw lw pd hd ha hb =
     let w0 : 0 < w = omega arith in
     let t = excess w d a b in
-    let Q = λ (m n : ℕ). SharedNumber w m n (remainder (floor (signed w (sum w a b)) d) (2 ^ w)) in
+    let Q = λ (m n : ℕ). SharedNumber w m n (remainder (floor (signed w (shared_value w a b)) d) (2 ^ w)) in
     let T = λ (j m n : ℕ). SharedNumber 32 m n (bit (le_z (pos (j * d)) t)) in
-    then_computes seat_0 (λ g h. SharedBit g h (not_negative w (sum w a b))) Q (sign_computes w a b (sum w a b) hw (record { below_0 = ha; below_1 = hb; adds = refl }))
+    then_computes seat_0 (λ g h. SharedBit g h (not_negative w (shared_value w a b))) Q (sign_computes w a b (shared_value w a b) hw (record { below_0 = ha; below_1 = hb; adds = refl }))
     (λ g h sg. then_computes seat_0 (λ m n. SharedNumber 32 m n (remainder (flip_of w a b) (2 ^ 32))) Q (flip_computes w a b g h w0 ha hb sg)
     (λ f f' sf.
     let k = sum_at f f' (flip_of w a b) (2 ^ 32) (pow_pos 32) sf.adds in
@@ -108,8 +108,8 @@ pub division_computes : DivisionComputes
 division_computes w d a b v hw lw pd hd s =
     subst (λ u. Computes seat_0 (λ m n. SharedNumber w m n (remainder (floor (signed w u) d) (2 ^ w))) (divide 0 w d a) (divide 1 w d b)) s.adds (go (eqb d 1) refl)
   where
-    go : (c : Bool) → eqb d 1 ≡ c → Computes seat_0 (λ m n. SharedNumber w m n (remainder (floor (signed w (sum w a b)) d) (2 ^ w))) (cond c (done (a % 2 ^ w)) (divided 0 w d a)) (cond c (done (b % 2 ^ w)) (divided 1 w d b))
-    go true e = ends (copied w a b (floor (signed w (sum w a b)) d) s.below_0 s.below_1 (ap (floor (signed w (sum w a b))) (eqb-true d 1 e) ∙ floor_one (signed w (sum w a b))))
+    go : (c : Bool) → eqb d 1 ≡ c → Computes seat_0 (λ m n. SharedNumber w m n (remainder (floor (signed w (shared_value w a b)) d) (2 ^ w))) (cond c (done (a % 2 ^ w)) (divided 0 w d a)) (cond c (done (b % 2 ^ w)) (divided 1 w d b))
+    go true e = ends (copied w a b (floor (signed w (shared_value w a b)) d) s.below_0 s.below_1 (ap (floor (signed w (shared_value w a b))) (eqb-true d 1 e) ∙ floor_one (signed w (shared_value w a b))))
     go false e = divided_computes w d a b hw lw pd hd s.below_0 s.below_1
 
 test_follows : (seat w d a f j : ℕ) → Follows (λ r. r < 2 ^ 32) (test_kinds d) (test seat w d a f j)

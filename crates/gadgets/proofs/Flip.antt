@@ -3,7 +3,7 @@ use Rattle.std.proofs.Common.{◌≡◌, ℕ, ◌+◌, ◌/◌, ◌%◌, ◌^◌
 use lib.Bits.{bit_xor}
 use Rattle.refusal.specs.declared.kind.Kind.TheVariants.{Ring0}
 use Rattle.arithmetic.specs.Bits.{xor, bit}
-use Rattle.arithmetic.specs.Sign.{top, sum, not_negative, flip_of, flip as flip_value}
+use Rattle.arithmetic.specs.Sign.{top, shared_value, not_negative, flip_of, flip as flip_value}
 use Rattle.arithmetic.specs.Division.{remainder}
 use Rattle.protocol.specs.Course.{AskIn, ends, looks}
 use Rattle.gadgets.specs.Sign.{top_of}
@@ -33,7 +33,7 @@ flip_computes w a b g h p ha hb s =
     let t = truths s in
     looks (asks (top_of w a) g) (asks (top_of w b) h)
     (λ x y sh. ends (from_ring x y (remainder (flip_of w a b) (2 ^ 32)) sh.near_in sh.far_in
-    (sh.joins ∙ entry_is (top_of w a) (top_of w b) g h (top w a) (top w b) t.own_0 t.own_1 (not_negative w (sum w a b)) (top_is w a p ha) (top_is w b p hb) t.is_0 t.is_1 t.opens)))
+    (sh.joins ∙ entry_is (top_of w a) (top_of w b) g h (top w a) (top w b) t.own_0 t.own_1 (not_negative w (shared_value w a b)) (top_is w a p ha) (top_is w b p hb) t.is_0 t.is_1 t.opens)))
 
 pub flip_follows : FlipFollows
 flip_follows t g = looks (asks t g) (λ s. ends (omega arith))

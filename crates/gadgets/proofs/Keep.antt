@@ -4,7 +4,7 @@ use native.Mathlib.Nat.{add-mod, zero-mod}
 use lib.Bits.{bit_xor}
 use Rattle.refusal.specs.declared.kind.Kind.TheVariants.{Bit, Ring0, Ring1}
 use Rattle.arithmetic.specs.Bits.{xor, bit}
-use Rattle.arithmetic.specs.Sign.{sum}
+use Rattle.arithmetic.specs.Sign.{shared_value}
 use Rattle.protocol.specs.Course.{AskIn, ends, looks}
 use Rattle.gadgets.specs.Shares.{SharedNumber}
 use Rattle.gadgets.specs.Keep.{keep_table, KeepComputes, KeepFollows, KeepTallies}
@@ -30,7 +30,7 @@ entry_is a b k p q v ep eq ev = rw (ep, eq, ← ev) (at p q)
     at p q = rw (bit_rest p, bit_rest q, within q, bit_of_xor p q) refl
 
 kept : (w a a' x x' y y' : ℕ) (v : Bool) → w ≤ 32 → (x' + x) % 2 ^ 32 ≡ (bit v * a) % 2 ^ 32 → (y + y') % 2 ^ 32 ≡ (bit v * a') % 2 ^ 32
-    → SharedNumber w ((x + y) % 2 ^ w) ((x' + y') % 2 ^ w) (cond v (sum w a a') 0)
+    → SharedNumber w ((x + y) % 2 ^ w) ((x' + y') % 2 ^ w) (cond v (shared_value w a a') 0)
 kept w a a' x x' y y' v h ex ey =
     let p : 0 < 2 ^ w = pow_pos w in
     let r : (x + y) + (x' + y') ≡ (x' + x) + (y + y') = omega arith in
@@ -42,7 +42,7 @@ kept w a a' x x' y y' v h ex ey =
           ∙ sym (add-mod (bit v * a) (bit v * a') (2 ^ w)) ∙ at v;
     }
   where
-    at : (v : Bool) → (bit v * a + bit v * a') % 2 ^ w ≡ cond v (sum w a a') 0
+    at : (v : Bool) → (bit v * a + bit v * a') % 2 ^ w ≡ cond v (shared_value w a a') 0
     at true = ap (λ n. n % 2 ^ w) (omega arith)
     at false = ap (λ n. n % 2 ^ w) zeros ∙ zero-mod (2 ^ w)
       where

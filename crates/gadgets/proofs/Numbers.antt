@@ -3,7 +3,7 @@ use Rattle.std.proofs.Common.{◌≡◌, ℕ, ◌+◌, ◌-◌, ◌*◌, ◌/◌
 use native.Mathlib.Nat.{mod-mod_of_dvd, dvd-mul_right}
 use Rattle.std.proofs.lemmas.Int.{ints}
 use Rattle.arithmetic.specs.Bits.{bit}
-use Rattle.arithmetic.specs.Sign.{sum, signed}
+use Rattle.arithmetic.specs.Sign.{shared_value, signed}
 use Rattle.arithmetic.specs.Division.{floor, remainder}
 use Rattle.arithmetic.proofs.Integers.{floor_exact, floor_unique, remainder_sum, mul_sum, mul_neg, mul_mul, signed_back}
 use Rattle.gadgets.specs.Shares.{SharedNumber}
@@ -77,11 +77,11 @@ bit_sum x y w v h s =
     ones x y z k e = omega (arith, ints)
 
 -- shares that are copied, at a quotient that is the number
-pub copied : (w a b : ℕ) (z : ℤ) → a < 2 ^ w → b < 2 ^ w → z ≡ signed w (sum w a b) → SharedNumber w (a % 2 ^ w) (b % 2 ^ w) (remainder z (2 ^ w))
+pub copied : (w a b : ℕ) (z : ℤ) → a < 2 ^ w → b < 2 ^ w → z ≡ signed w (shared_value w a b) → SharedNumber w (a % 2 ^ w) (b % 2 ^ w) (remainder z (2 ^ w))
 copied w a b z ha hb e =
     let p : 0 < 2 ^ w = pow_pos w in
     record {
       below_0 = mod-lt a p;
       below_1 = mod-lt b p;
-      adds = ap₂ (sum w) (mod-eq_of_lt ha) (mod-eq_of_lt hb) ∙ sym (signed_back w (sum w a b) (mod-lt (a + b) p)) ∙ ap (λ x. remainder x (2 ^ w)) (sym e);
+      adds = ap₂ (shared_value w) (mod-eq_of_lt ha) (mod-eq_of_lt hb) ∙ sym (signed_back w (shared_value w a b) (mod-lt (a + b) p)) ∙ ap (λ x. remainder x (2 ^ w)) (sym e);
     }

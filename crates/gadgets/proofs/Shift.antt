@@ -3,7 +3,7 @@ use Rattle.std.proofs.Common.{◌≡◌, ℕ, ◌+◌, ◌-◌, ◌*◌, ◌%◌
 use Rattle.std.proofs.lemmas.Int.{ints}
 use Rattle.std.proofs.lemmas.Bool.{eqb-true, eqb-false}
 use Rattle.arithmetic.specs.Bits.{bit}
-use Rattle.arithmetic.specs.Sign.{sum, not_negative, signed, flip_of}
+use Rattle.arithmetic.specs.Sign.{shared_value, not_negative, signed, flip_of}
 use Rattle.arithmetic.specs.Division.{floor, remainder}
 use Rattle.arithmetic.proofs.Integers.{floor_exact, mul_sum, mul_neg, floor_one}
 use Rattle.arithmetic.proofs.Division.{shifts_add}
@@ -38,7 +38,7 @@ spread m k n = rw (mul_sum, mul_neg) refl
 -- the parties' shares of the quotient, from shares of the flip and of the comparison
 shift_shared : (w s a b f g : ℕ) (k : ℤ) (x y : ℕ) → 0 < w → w ≤ 32 → s ≤ w → a < 2 ^ w → b < 2 ^ w
     → pos f +ℤ pos g ≡ flip_of w a b +ℤ k *ℤ pos (2 ^ 32) → SharedNumber 32 x y (bit (carries w s a b))
-    → SharedNumber w (shift_share w s a f x) (shift_share w s b g y) (remainder (floor (signed w (sum w a b)) (2 ^ s)) (2 ^ w))
+    → SharedNumber w (shift_share w s a f x) (shift_share w s b g y) (remainder (floor (signed w (shared_value w a b)) (2 ^ s)) (2 ^ w))
 shift_shared w s a b f g k x y w0 lw hs ha hb ef sx =
     let n = 2 ^ w in
     let n1 = 2 ^ (w - s) in
@@ -55,13 +55,13 @@ shift_shared w s a b f g k x y w0 lw hs ha hb ef sx =
     rw (shifts_add w s a b w0 hs ha hb) (joined w ((q -ℤ pos f *ℤ pos n1) +ℤ pos x) ((p -ℤ pos g *ℤ pos n1) +ℤ pos y) z (neg_ℤ m +ℤ b0.0) e)
 
 shifted_computes : (w s a b : ℕ) → 1 < w → w ≤ 32 → 0 < s → s < w → a < 2 ^ w → b < 2 ^ w
-    → Computes seat_0 (λ m n. SharedNumber w m n (remainder (floor (signed w (sum w a b)) (2 ^ s)) (2 ^ w))) (shifted 0 w s a) (shifted 1 w s b)
+    → Computes seat_0 (λ m n. SharedNumber w m n (remainder (floor (signed w (shared_value w a b)) (2 ^ s)) (2 ^ w))) (shifted 0 w s a) (shifted 1 w s b)
 shifted_computes w s a b hw lw ps hs ha hb =
     let w0 : 0 < w = omega arith in
-    let Q = λ (m n : ℕ). SharedNumber w m n (remainder (floor (signed w (sum w a b)) (2 ^ s)) (2 ^ w)) in
+    let Q = λ (m n : ℕ). SharedNumber w m n (remainder (floor (signed w (shared_value w a b)) (2 ^ s)) (2 ^ w)) in
     let p : 0 < 2 ^ s = pow_pos s in
     let r = (floor_exact (signed w b) (2 ^ s) p).1 in
-    then_computes seat_0 (λ g h. SharedBit g h (not_negative w (sum w a b))) Q (sign_computes w a b (sum w a b) hw (record { below_0 = ha; below_1 = hb; adds = refl }))
+    then_computes seat_0 (λ g h. SharedBit g h (not_negative w (shared_value w a b))) Q (sign_computes w a b (shared_value w a b) hw (record { below_0 = ha; below_1 = hb; adds = refl }))
     (λ g h sg. then_computes seat_0 (λ m n. SharedNumber 32 m n (remainder (flip_of w a b) (2 ^ 32))) Q (flip_computes w a b g h w0 ha hb sg)
     (λ f f' sf.
     let k = sum_at f f' (flip_of w a b) (2 ^ 32) (pow_pos 32) sf.adds in
@@ -73,8 +73,8 @@ pub shift_computes : ShiftComputes
 shift_computes w s a b v hw lw hs sn =
     subst (λ u. Computes seat_0 (λ m n. SharedNumber w m n (remainder (floor (signed w u) (2 ^ s)) (2 ^ w))) (shift 0 w s a) (shift 1 w s b)) sn.adds (go (eqb s 0) refl)
   where
-    go : (c : Bool) → eqb s 0 ≡ c → Computes seat_0 (λ m n. SharedNumber w m n (remainder (floor (signed w (sum w a b)) (2 ^ s)) (2 ^ w))) (cond c (done (a % 2 ^ w)) (shifted 0 w s a)) (cond c (done (b % 2 ^ w)) (shifted 1 w s b))
-    go true e = ends (copied w a b (floor (signed w (sum w a b)) (2 ^ s)) sn.below_0 sn.below_1 (ap (λ n. floor (signed w (sum w a b)) (2 ^ n)) (eqb-true s 0 e) ∙ floor_one (signed w (sum w a b))))
+    go : (c : Bool) → eqb s 0 ≡ c → Computes seat_0 (λ m n. SharedNumber w m n (remainder (floor (signed w (shared_value w a b)) (2 ^ s)) (2 ^ w))) (cond c (done (a % 2 ^ w)) (shifted 0 w s a)) (cond c (done (b % 2 ^ w)) (shifted 1 w s b))
+    go true e = ends (copied w a b (floor (signed w (shared_value w a b)) (2 ^ s)) sn.below_0 sn.below_1 (ap (λ n. floor (signed w (shared_value w a b)) (2 ^ n)) (eqb-true s 0 e) ∙ floor_one (signed w (shared_value w a b))))
     go false e = shifted_computes w s a b hw lw (omega (arith, eqb-false s 0 e)) hs sn.below_0 sn.below_1
 
 pub shift_follows : ShiftFollows

@@ -2,7 +2,7 @@
 use Rattle.std.specs.Prelude.{ℕ, ◌+◌, ◌-◌, ◌*◌, ◌/◌, ◌%◌, ◌^◌, ◌<◌, cond, List, [], ◌∷◌, ◌==◌, bit_xor, nat_lt}
 use Rattle.refusal.specs.declared.kind.Kind.{Kind}
 use Rattle.refusal.specs.declared.kind.Kind.TheVariants.{Ring0}
-use Rattle.arithmetic.specs.Sign.{sum, not_negative, flip_of}
+use Rattle.arithmetic.specs.Sign.{shared_value, not_negative, flip_of}
 use Rattle.arithmetic.specs.Division.{remainder}
 use Rattle.protocol.specs.Seats.{seat_0}
 use Rattle.protocol.specs.Course.{Course, done, lookup, Computes, Follows}
@@ -29,7 +29,7 @@ flip_kinds = Ring0 ∷ []
 -- The parties come to share the flip of their shares a and b of w bits.
 abbrev pub FlipComputes : Type 0
 FlipComputes =
-    (w a b g h : ℕ) → 0 < w → a < 2 ^ w → b < 2 ^ w → SharedBit g h (not_negative w (sum w a b))
+    (w a b g h : ℕ) → 0 < w → a < 2 ^ w → b < 2 ^ w → SharedBit g h (not_negative w (shared_value w a b))
     → Computes seat_0 (λ m n. SharedNumber 32 m n (remainder (flip_of w a b) (2 ^ 32))) (flip (top_of w a) g) (flip (top_of w b) h)
 
 abbrev pub FlipFollows : Type 0

@@ -76,7 +76,8 @@ fn bit_at(sheet: &[u8], i: usize) -> u32
 
 // The number that `n` bits from a place on stand for.
 pub(crate) fn read(sheet: &[u8], p: usize, n: u32) -> u32
-    requires { (n ≤ 32) × (p < 2 ^ 33) }
+    requires few { n ≤ 32 }
+    requires near { p < 2 ^ 33 }
     ensures is { result ≡ read_of (bits_of sheet.now) p n }
     ensures low { result < 2 ^ n }
 {

@@ -81,7 +81,8 @@ impl<'a> SheetSource<'a> {
 
     // The seat whose sheet it is.
     fn owner(&self) -> u8
-        ensures { (result ≡ sheet_owner self.now) × (result < 2) }
+        ensures is { result ≡ sheet_owner self.now }
+        ensures low { result < 2 }
     {
         if self.second { 1 } else { 0 }
     }

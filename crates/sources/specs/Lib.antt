@@ -1,3 +1,4 @@
 pub mod Halves
 pub mod Calls
 pub mod Quotas
+pub mod Ranges

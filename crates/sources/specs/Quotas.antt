@@ -2,7 +2,7 @@
 use Rattle.std.specs.Prelude.{ℕ, cond, length, take, drop, nat_lt}
 use Rattle.refusal.specs.declared.kind.Kind.{Kind}
 use Rattle.refusal.specs.declared.refusal.Layer.{Layer}
-use Rattle.refusal.specs.declared.refusal.Layer.TheVariants.{Quota as quota_layer_of}
+use Rattle.refusal.specs.declared.refusal.Layer.TheVariants.{Quota as QuotaLayer}
 use Rattle.refusal.specs.PerKinds.{at}
 use Rattle.sources.specs.declared.quota.Quota.{Quota}
 use Rattle.sources.specs.Halves.{Halves}
@@ -17,7 +17,7 @@ module _ {S : Type 0} where
 
   -- a shortage below is passed up if the list there is shorter than the number
   abbrev pub quota_layer : (S → Halves) → (S → Kind → Layer) → Quota S → Kind → Layer
-  quota_layer left layer q k = cond (nat_lt (length (left q.below k)) (at q.allowed k)) (layer q.below k) quota_layer_of
+  quota_layer left layer q k = cond (nat_lt (length (left q.below k)) (at q.allowed k)) (layer q.below k) QuotaLayer
 
   -- what of the source below lies past the quota
   abbrev pub quota_past : (S → Halves) → Quota S → Halves

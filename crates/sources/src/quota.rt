@@ -1,11 +1,11 @@
 // A limit over any source, itself a source.
-ghost use Rattle.std.specs.Prelude.{◌≡◌, ◌-◌, ◌<◌, ltb, ◌++◌, length, take, drop, if◌then◌else◌, nat_lt};
-ghost use Rattle.std.proofs.ByRecursion.{All-take as all_take};
+ghost use Rattle.std.specs.Prelude.{◌≡◌, ◌-◌, ◌<◌, ◌++◌, length, take, drop, if◌then◌else◌, nat_lt};
 ghost use Rattle.refusal.specs.PerKinds.{at, with_at};
 ghost use Rattle.refusal.specs.declared.kind.Kind.{Kind as KindOf};
 ghost use Rattle.refusal.specs.declared.refusal.Layer.TheVariants.{Quota as QuotaLayer};
 ghost use Rattle.sources.specs.Halves.{InRange};
 ghost use Rattle.sources.specs.Calls.{Draws};
+ghost use Rattle.sources.specs.Ranges.{taken_in_range};
 ghost use Rattle.sources.specs.Quotas.{quota_owner, quota_left, quota_layer, quota_past};
 
 use crate::source::{Source, enough};
@@ -25,7 +25,7 @@ impl<S: Source> Quota<S> {
         ensures owner { quota_owner S.owner result ≡ S.owner below }
         ensures left { (k : KindOf) → quota_left S.left result k ≡ take (at allowed k) (S.left below k) }
         ensures past { (k : KindOf) → quota_past S.left result k ≡ drop (at allowed k) (S.left below k) }
-        ensures layer { (k : KindOf) → quota_layer S.left S.layer result k ≡ (if ltb (length (S.left below k)) (at allowed k) then S.layer below k else QuotaLayer) }
+        ensures layer { (k : KindOf) → quota_layer S.left S.layer result k ≡ (if nat_lt (length (S.left below k)) (at allowed k) then S.layer below k else QuotaLayer) }
     {
         Quota { below, allowed }
     }
@@ -65,7 +65,7 @@ impl<S: Source> Source for Quota<S> {
 
     ghost layer = { quota_layer S.Source.left S.Source.layer };
 
-    ghost ranges = { λ s k. all_take (InRange (S.Source.owner s.below) k) (at s.allowed k) (S.Source.left s.below k) (S.Source.ranges s.below k) };
+    ghost ranges = { λ s k. taken_in_range (InRange (S.Source.owner s.below) k) (at s.allowed k) (S.Source.left s.below k) (S.Source.ranges s.below k) };
 
     fn seat(&self) -> u8 {
         self.below.seat()

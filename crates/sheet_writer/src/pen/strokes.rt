@@ -22,7 +22,8 @@ impl Pen {
 
     // Writes one bit more.
     fn push_bit(self, bit: u32, bytes: &mut [u8]) -> Pen
-        requires { (bit < 2) × (place_of self < 8 * length bytes.old) }
+        requires one_bit { bit < 2 }
+        requires room { place_of self < 8 * length bytes.old }
         ensures { Pushed self result bytes.old bytes.new (bit ∷ []) }
     {
         let current = 2 * self.current + bit;
@@ -43,7 +44,8 @@ impl Pen {
 
     // Writes a number in so many bits, the most significant first.
     pub(crate) fn push(self, value: u32, n: u32, bytes: &mut [u8]) -> Pen
-        requires { (n ≤ 32) × (place_of self + n ≤ 8 * length bytes.old) }
+        requires few { n ≤ 32 }
+        requires room { place_of self + n ≤ 8 * length bytes.old }
         ensures { Pushed self result bytes.old bytes.new (bits_at n value) }
     {
         let mut pen = self;

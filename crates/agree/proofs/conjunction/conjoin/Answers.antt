@@ -20,8 +20,8 @@ returns g c =
     let drew = c.in-Ok-draw.ensures.draws in
     let drew' = c.in-Ok.ensures.draws in
     let part : Exchanged (take (m - 0) sent) (take (n - 0) sought) a b e = c.look_up.ensures in
-    let m-is : m - 0 ≡ m = omega arith in
-    let n-is : n - 0 ≡ n = omega arith in
-    let whole : Exchanged (take m sent) (take n sought) a b e = subst (λ j. Exchanged (take m sent) (take j sought) a b e) n-is (subst (λ i. Exchanged (take i sent) (take (n - 0) sought) a b e) m-is part) in
+    let m_is : m - 0 ≡ m = omega arith in
+    let n_is : n - 0 ≡ n = omega arith in
+    let whole : Exchanged (take m sent) (take n sought) a b e = subst (λ j. Exchanged (take m sent) (take j sought) a b e) n_is (subst (λ i. Exchanged (take i sent) (take (n - 0) sought) a b e) m_is part) in
     agreed (S.left s) (S.left c.draw-2.new.self) (R.left r) (R.left c.draw.new.self) (take m sent) (take n sought) drew.first drew'.first drew.others drew'.others
     (S.owner s) (R.owner r) a b e (S.ranges s Bit) (R.ranges r Bit) whole

@@ -7,7 +7,7 @@ use Rattle.sheets.proofs.Sizes.{width_few, row_step}
 use Rattle.sheets.proofs.layout.read_half.Goals as goal
 
 pub read-requires : goal.read-requires
-read-requires c = let few = width_few c.args.seat c.args.kind in (c.field_size-size.ensures.most, omega arith)
+read-requires c = let few = width_few c.args.seat c.args.kind in record { few = c.field_size-size.ensures.most; near = omega arith }
 
 pub loop-i-preserved : goal.loop-i-preserved
 loop-i-preserved c =

@@ -12,7 +12,7 @@ pub push_bit-pen-requires : goal.push_bit-pen-requires
 push_bit-pen-requires c =
     let i = c.loop-i.i in
     let long = length_bits i (c.args.value / 2 ^ (c.args.n - i)) in
-    (omega arith, omega arith)
+    record { one_bit = omega arith; room = omega arith }
 
 pub loop-i-preserved : goal.loop-i-preserved
 loop-i-preserved c =

@@ -12,7 +12,7 @@ pub push-pen-requires : goal.push-pen-requires
 push-pen-requires c =
     let size = field_size c.args.seat c.args.kind in
     let room = row_room size c.loop-i.i c.args.half.now (omega arith) in
-    (c.field_size.ensures.most, omega arith)
+    record { few = c.field_size.ensures.most; room = omega arith }
 
 pub loop-i-preserved : goal.loop-i-preserved
 loop-i-preserved c =
