@@ -1,22 +1,35 @@
 // The "and" of two shared bits by one lookup, over any two sources.
-ghost use Rattle.std.specs.Prelude.{◌≡◌, MatchResult};
+ghost use Rattle.std.specs.Prelude.{◌≡◌, ◌/◌, ◌%◌, MatchResult};
 ghost use Rattle.agree.specs.Conjunction.{table as table_of, index as index_of, Exchanged, Agreed, Kept};
 
 use lookup::group::Xor;
 use lookup::half::{ReceiverHalf, SenderHalf};
 use lookup::steps::{answer, receiver_share, request, sender_share};
+use refusal::kind::Kind;
 use refusal::refusal::Refusal;
 use sources::source::Source;
 
 // One examiner's shares of the bits x and y.
-#[derive(Clone, Copy)]
+#[derive(Clone, Copy, Debug, PartialEq, Eq)]
 pub struct Shares {
     pub x: u32,
     pub y: u32,
 }
 
+impl Shares {
+    // The last two bits of a number: bit 1 is the share of x, bit 0 that of y.
+    pub fn from_last_bits(n: u32) -> Shares
+        ensures { result ≡ record { x = n / 2 % 2; y = n % 2 } }
+    {
+        Shares {
+            x: n / 2 % 2,
+            y: n % 2,
+        }
+    }
+}
+
 // What passed in a lookup, and each seat's share of the result.
-#[derive(Clone, Copy)]
+#[derive(Clone, Copy, Debug, PartialEq, Eq)]
 pub struct Exchange {
     pub request: u32,
     pub words: [u32; 16],
@@ -44,10 +57,10 @@ fn index(b: Shares) -> u32
 fn look_up(sent: &[u32], sought: &[u32], a: Shares, b: Shares) -> Exchange
     ensures { Exchanged sent.now sought.now a b result }
 {
-    let sender = SenderHalf::from_words(sent);
-    let receiver = ReceiverHalf::from_words(sought);
+    let sender = SenderHalf::from(sent);
+    let receiver = ReceiverHalf::from(sought);
     let asked = request(16, receiver, index(b));
-    let mut words = [0u32; 16];
+    let mut words = [0; 16];
     answer::<Xor>(&table(a), sender, asked, &mut words);
     Exchange {
         request: asked,
@@ -66,18 +79,8 @@ pub fn conjoin<S: Source, R: Source>(
 ) -> Result<Exchange, Refusal>
     ensures { MatchResult result (Agreed (S.Source.owner sender.old) (R.Source.owner receiver.old) (S.Source.left sender.old) (S.Source.left sender.new) (R.Source.left receiver.old) (R.Source.left receiver.new) a b) (λ _. Kept (S.Source.left sender.old) (S.Source.left sender.new) (R.Source.left receiver.old) (R.Source.left receiver.new)) }
 {
-    if let Err(e) = sender.afford(0, 1) {
-        return Err(e);
-    }
-    let mut sought = [0u32; 17];
-    let n = match receiver.draw(0, &mut sought) {
-        Ok(n) => n,
-        Err(e) => return Err(e),
-    };
-    let mut sent = [0u32; 17];
-    let m = match sender.draw(0, &mut sent) {
-        Ok(m) => m,
-        Err(e) => return Err(e),
-    };
-    Ok(look_up(&sent[0..m], &sought[0..n], a, b))
+    sender.check(Kind::Bit, 1)?;
+    let sought = receiver.take(Kind::Bit)?;
+    let sent = sender.take(Kind::Bit)?;
+    Ok(look_up(sent.as_slice(), sought.as_slice(), a, b))
 }

@@ -26,19 +26,6 @@ fn report(rt: &impl Print, a: Shares, b: Shares, e: &Exchange) -> anyhow::Result
     Ok(right)
 }
 
-// The inputs by number: bit 3 is seat 0's share of x, bit 2 its share of y, bits 1 and 0 are seat 1's.
-fn inputs(i: u32) -> (Shares, Shares) {
-    let first = Shares {
-        x: i / 8 % 2,
-        y: i / 4 % 2,
-    };
-    let second = Shares {
-        x: i / 2 % 2,
-        y: i % 2,
-    };
-    (first, second)
-}
-
 fn run(rt: &impl Print) -> anyhow::Result<()> {
     let counts = PerKind {
         bit: 16,
@@ -47,16 +34,18 @@ fn run(rt: &impl Print) -> anyhow::Result<()> {
     };
     let (mut first, mut second) = deal(1, counts);
     let mut agreed = 0u32;
-    for i in 0..16u32 {
-        let (a, b) = inputs(i);
+    // Bits 3 and 2 of a number are seat 0's shares, bits 1 and 0 seat 1's. Each turn draws, prints and may fail,
+    // which a loop shows more plainly than a fold.
+    for i in 0..16 {
+        let (a, b) = (Shares::from_last_bits(i / 4), Shares::from_last_bits(i));
         let e = conjoin(&mut first, &mut second, a, b)?;
         if report(rt, a, b, &e)? {
-            agreed = agreed.saturating_add(1);
+            agreed += 1;
         }
     }
     println!(rt; "{agreed} of 16 results are x and y")?;
-    let (a, b) = inputs(0);
-    match conjoin(&mut first, &mut second, a, b) {
+    let zeros = Shares::from_last_bits(0);
+    match conjoin(&mut first, &mut second, zeros, zeros) {
         Ok(_) => println!(rt; "a seventeenth lookup went ahead")?,
         Err(e) => println!(rt; "a seventeenth lookup: {e}")?,
     }

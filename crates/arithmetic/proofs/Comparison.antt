@@ -1,6 +1,6 @@
 -- A list of pairs means one pair, which no level changes; and that of a number's digits compares the number.
 use Rattle.std.proofs.Common.{◌≡◌, ℕ, zero, suc, ◌+◌, ◌*◌, ◌/◌, ◌%◌, ◌^◌, ◌<◌, ◌≤◌, true, false, List, [], ◌∷◌, ◌++◌, length, refl, ap, ◌∙◌, pow-suc, arith, pow_mono, pow-add}
-use native.Mathlib.Nat.{pow-zero}
+use Rattle.std.proofs.Math.Nat.{pow-zero}
 use Rattle.std.proofs.lemmas.Bool.Decides.{nat_tests}
 use Rattle.arithmetic.specs.Comparison.{Pair, join, level, levels, digits, pair, pairs}
 use Rattle.arithmetic.specs.Theorems.{DigitsCompare, DigitsSuffice}

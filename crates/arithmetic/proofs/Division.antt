@@ -1,8 +1,7 @@
 -- The quotient of a shared value, from what its two shares have.
-use Rattle.std.proofs.Common.{◌≡◌, ℕ, ◌+◌, ◌-◌, ◌*◌, ◌/◌, ◌%◌, ◌^◌, ◌<◌, Bool, true, false, ltb, ℤ, pos, negsuc, ◌+ℤ◌, ◌-ℤ◌, ◌*ℤ◌, neg_ℤ, nat_abs, ◌<ℤ◌, sym, refl, ap, ◌∙◌, mod-lt, div-add-mod', mul-div_cancel, arith, pow_pos, pow-add}
-use native.Mathlib.Nat.{mul-mod_left}
-use lib.IntN.{*ℤ-zero}
-use lib.Signed.{le_z}
+use Rattle.std.proofs.Common.{◌≡◌, ℕ, ◌+◌, ◌-◌, ◌*◌, ◌/◌, ◌%◌, ◌^◌, ◌<◌, Bool, true, false, nat_lt, ℤ, pos, negsuc, ◌+ℤ◌, ◌-ℤ◌, ◌*ℤ◌, neg_ℤ, nat_abs, ◌<ℤ◌, sym, refl, ap, ◌∙◌, mod-lt, div-add-mod', mul-div_cancel, arith, pow_pos, pow-add, int_le}
+use Rattle.std.proofs.Math.Nat.{mul-mod_left}
+use Rattle.std.proofs.Math.IntN.{*ℤ-zero}
 use Rattle.std.proofs.lemmas.Int.{ints}
 use Rattle.std.proofs.lemmas.Bool.Decides.{nat_tests}
 use Rattle.arithmetic.specs.Bits.{bit}
@@ -31,17 +30,14 @@ at_step q t v c d r e l f = (floor_unique v (q +ℤ c) d r l (rw mul_sum (omega 
 
 -- the floor of q * d + t, for t from -d to 3 * d
 climbed : (q t v : ℤ) (d : ℕ) → v ≡ q *ℤ pos d +ℤ t → neg_ℤ (pos d) <ℤ t → t <ℤ pos (3 * d) → floor v d ≡ (q -ℤ pos 1) +ℤ steps t d
-climbed q t v d e lo hi = go (le_z (pos 0) t) (le_z (pos d) t) (le_z (pos (2 * d)) t) refl refl refl
+climbed q t v d e lo hi = go (int_le (pos 0) t) (int_le (pos d) t) (int_le (pos (2 * d)) t) refl refl refl
   where
-    go : (a b c : Bool) → le_z (pos 0) t ≡ a → le_z (pos d) t ≡ b → le_z (pos (2 * d)) t ≡ c → floor v d ≡ (q -ℤ pos 1) +ℤ ((pos (bit a) +ℤ pos (bit b)) +ℤ pos (bit c))
+    go : (a b c : Bool) → int_le (pos 0) t ≡ a → int_le (pos d) t ≡ b → int_le (pos (2 * d)) t ≡ c → floor v d ≡ (q -ℤ pos 1) +ℤ ((pos (bit a) +ℤ pos (bit b)) +ℤ pos (bit c))
     go false false false ea eb ec = at_step q t v (negsuc 0) d (nat_abs (t +ℤ pos d)) e (omega (arith, ints)) (omega (arith, ints)) ∙ (omega (arith, ints))
-    go false false true ea eb ec = absurd (omega (arith, ints))
-    go false true false ea eb ec = absurd (omega (arith, ints))
-    go false true true ea eb ec = absurd (omega (arith, ints))
     go true false false ea eb ec = at_step q t v (pos 0) d (nat_abs t) e (omega (arith, ints)) (omega (arith, ints)) ∙ (omega (arith, ints))
-    go true false true ea eb ec = absurd (omega (arith, ints))
     go true true false ea eb ec = at_step q t v (pos 1) d (nat_abs (t -ℤ pos d)) e (omega (arith, ints)) (omega (arith, ints)) ∙ (omega (arith, ints))
     go true true true ea eb ec = at_step q t v (pos 2) d (nat_abs (t -ℤ pos (2 * d))) e (omega (arith, ints)) (omega (arith, ints)) ∙ (omega (arith, ints))
+    go _ _ _ ea eb ec = absurd (omega (arith, ints))
 
 excess_at : (r u k d : ℕ) (x y g : Bool) → r < d → u < d → k < d → (neg_ℤ (pos d) <ℤ ((pos r +ℤ pos u) -ℤ flip x y g *ℤ pos k)) × (((pos r +ℤ pos u) -ℤ flip x y g *ℤ pos k) <ℤ pos (3 * d))
 excess_at r u k d x y g hr hu hk = grind (arith, ints)
@@ -63,7 +59,7 @@ quotients_add w d a b p h ha hb =
     (floor_exact s d h).0 (floor_exact t d h).0 (div-add-mod' (2 ^ w) d) (signed_shares_add w a b p ha hb))
     bounds.0 bounds.1
 
-one_step : (x : ℤ) (r u d : ℕ) → r < d → u < d → (x -ℤ pos 1) +ℤ steps (pos (r + u) -ℤ pos 0) d ≡ x +ℤ pos (bit (ltb (d - 1 - r) u))
+one_step : (x : ℤ) (r u d : ℕ) → r < d → u < d → (x -ℤ pos 1) +ℤ steps (pos (r + u) -ℤ pos 0) d ≡ x +ℤ pos (bit (nat_lt (d - 1 - r) u))
 one_step x r u d hr hu = grind (arith, nat_tests, ints)
 
 pub shifts_add : ShiftsAdd

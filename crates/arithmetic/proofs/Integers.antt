@@ -1,6 +1,6 @@
 -- Floors and remainders of integers; sums and products modulo a number; a number of w bits read back.
-use Rattle.std.proofs.Common.{◌≡◌, ℕ, suc, ◌+◌, ◌-◌, ◌*◌, ◌/◌, ◌%◌, ◌^◌, ◌<◌, Bool, true, false, cond, ℤ, pos, negsuc, ◌+ℤ◌, ◌-ℤ◌, ◌*ℤ◌, neg_ℤ, ◌≤ℤ◌, ◌<ℤ◌, sym, ap, ◌∙◌, mod-lt, mod-eq_of_lt, div-add-mod', div-le_self, arith}
-use borrow.Author.Differences.{sum_is_lem, product_is, neg_is}
+use Rattle.std.proofs.Common.{◌≡◌, ℕ, suc, ◌+◌, ◌-◌, ◌*◌, ◌/◌, ◌%◌, ◌^◌, ◌<◌, Bool, true, false, if◌then◌else◌, ℤ, pos, negsuc, ◌+ℤ◌, ◌-ℤ◌, ◌*ℤ◌, neg_ℤ, ◌≤ℤ◌, ◌<ℤ◌, sym, ap, ◌∙◌, mod-lt, mod-eq_of_lt, div-add-mod', div-le_self, arith}
+use borrow.Author.Differences.{sum_is_lem, product_is}
 use Rattle.std.proofs.lemmas.Int.{ints}
 use Rattle.std.proofs.lemmas.Nat.{div-mul-add, mod-mul-add}
 use Rattle.arithmetic.specs.Sign.{half, not_negative, signed}
@@ -24,7 +24,7 @@ pub mul_sum : (a b : ℤ) (d : ℕ) → (a +ℤ b) *ℤ pos d ≡ a *ℤ pos d +
 mul_sum a b d = omega (arith, ints, ap (λ x. x * d) (sum_is_lem a b))
 
 pub mul_neg : (a : ℤ) (d : ℕ) → neg_ℤ a *ℤ pos d ≡ neg_ℤ (a *ℤ pos d)
-mul_neg a d = omega (arith, ints, ap (λ x. x * d) (neg_is a).0, ap (λ x. x * d) (neg_is a).1)
+mul_neg a d = grind (arith, ints)
 
 pub mul_mul : (a : ℤ) (m d : ℕ) → (a *ℤ pos m) *ℤ pos d ≡ a *ℤ pos (m * d)
 mul_mul a m d = omega (arith, ints, ap (λ x. x * d) (product_is a (pos m)).0, ap (λ x. x * d) (product_is a (pos m)).1)
@@ -68,7 +68,7 @@ floor_fits w v d p h =
 pub signed_back : (w v : ℕ) → v < 2 ^ w → remainder (signed w v) (2 ^ w) ≡ v
 signed_back w v h = go (not_negative w v)
   where
-    go : (b : Bool) → remainder (cond b (pos v) (pos v -ℤ pos (2 ^ w))) (2 ^ w) ≡ v
+    go : (b : Bool) → remainder (if b then pos v else pos v -ℤ pos (2 ^ w)) (2 ^ w) ≡ v
     go true = mod-eq_of_lt h
     go false = (floor_unique (pos v -ℤ pos (2 ^ w)) (negsuc 0) (2 ^ w) v h (omega (arith, ints))).1
 

@@ -1,6 +1,6 @@
 -- The sign of a shared number, and the sum of its signed shares.
-use Rattle.std.proofs.Common.{◌≡◌, ℕ, zero, suc, ◌+◌, ◌-◌, ◌*◌, ◌/◌, ◌%◌, ◌^◌, ◌<◌, ◌≤◌, true, cond, ltb, leb, ◌⊎◌, pos, ◌+ℤ◌, ◌-ℤ◌, ◌*ℤ◌, inl, inr, mod-eq_of_lt, arith, pow_pos}
-use native.Mathlib.Nat.{div-eq_of_lt}
+use Rattle.std.proofs.Common.{◌≡◌, ℕ, zero, suc, ◌+◌, ◌-◌, ◌*◌, ◌/◌, ◌%◌, ◌^◌, ◌<◌, ◌≤◌, true, if◌then◌else◌, nat_lt, nat_le, ◌⊎◌, pos, ◌+ℤ◌, ◌-ℤ◌, ◌*ℤ◌, inl, inr, mod-eq_of_lt, arith, pow_pos}
+use Rattle.std.proofs.Math.Nat.{div-eq_of_lt}
 use Rattle.std.proofs.lemmas.Bool.{cases_lt}
 use Rattle.std.proofs.lemmas.Int.{ints}
 use Rattle.std.proofs.lemmas.Nat.{div-mul-add, mod-mul-add}
@@ -16,7 +16,7 @@ twice (suc k) h =
     rw e (omega arith)
 
 -- a number below 2 * m, with its quotient and its remainder
-below_two : (m a : ℕ) → a < m + m → ((a < m) × (a / m ≡ 0) × (a % m ≡ a)) ⊎ ((m ≤ a) × (a / m ≡ 1) × (a ≡ m + a % m))
+pub below_two : (m a : ℕ) → a < m + m → ((a < m) × (a / m ≡ 0) × (a % m ≡ a)) ⊎ ((m ≤ a) × (a / m ≡ 1) × (a ≡ m + a % m))
 below_two m a h = elim (cases_lt a m) [ inl l ↦ inl (l, div-eq_of_lt l, mod-eq_of_lt l) | inr g ↦ inr (g, q g, r g) ]
   where
     q : m ≤ a → a / m ≡ 1
@@ -35,7 +35,7 @@ top_bit w a h k =
     let c = below_two (half w) a (omega arith) in
     grind arith
 
-sign_at : (m n a b : ℕ) → 0 < m → n ≡ m + m → a < n → b < n → ltb ((a + b) % n) m ≡ xor true (xor (leb m a) (xor (leb m b) (ltb (m - 1 - a % m) (b % m))))
+sign_at : (m n a b : ℕ) → 0 < m → n ≡ m + m → a < n → b < n → nat_lt ((a + b) % n) m ≡ xor true (xor (nat_le m a) (xor (nat_le m b) (nat_lt (m - 1 - a % m) (b % m))))
 sign_at m n a b p e h k =
     let ca = below_two m a (omega arith) in
     let cb = below_two m b (omega arith) in
@@ -49,8 +49,8 @@ pub sign_is_signed : SignIsSigned
 sign_is_signed w v h k = let e = twice w h in grind (arith, ints)
 
 signed_at : (m n a b : ℕ) → 0 < m → n ≡ m + m → a < n → b < n
-    → cond (ltb a m) (pos a) (pos a -ℤ pos n) +ℤ cond (ltb b m) (pos b) (pos b -ℤ pos n)
-    ≡ cond (ltb ((a + b) % n) m) (pos ((a + b) % n)) (pos ((a + b) % n) -ℤ pos n) +ℤ flip (leb m a) (leb m b) (ltb ((a + b) % n) m) *ℤ pos n
+    → (if nat_lt a m then pos a else pos a -ℤ pos n) +ℤ (if nat_lt b m then pos b else pos b -ℤ pos n)
+    ≡ (if nat_lt ((a + b) % n) m then pos ((a + b) % n) else pos ((a + b) % n) -ℤ pos n) +ℤ flip (nat_le m a) (nat_le m b) (nat_lt ((a + b) % n) m) *ℤ pos n
 signed_at m n a b p e h k =
     let cs = below_two n (a + b) (omega arith) in
     grind (arith, nat_tests, ints)

@@ -30,6 +30,5 @@ abbrev pub pair : ℕ → ℕ → Pair
 pair x y = record { less = nat_lt x y; equal = (x == y) }
 
 abbrev pub pairs : List ℕ → List ℕ → List Pair
-pairs [] ys = []
-pairs (x ∷ xs) [] = []
 pairs (x ∷ xs) (y ∷ ys) = pair x y ∷ pairs xs ys
+pairs _ _ = []

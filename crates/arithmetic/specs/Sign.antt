@@ -1,5 +1,5 @@
 -- Numbers of w bits that are shared by addition modulo 2^w: top bit, carry and sign, and what the signed shares add up to.
-use Rattle.std.specs.Prelude.{ℕ, ◌+◌, ◌-◌, ◌%◌, ◌^◌, Bool, true, false, cond, ℤ, pos, negsuc, ◌-ℤ◌, nat_le, nat_lt}
+use Rattle.std.specs.Prelude.{ℕ, ◌+◌, ◌-◌, ◌%◌, ◌^◌, Bool, true, false, if◌then◌else◌, ℤ, pos, negsuc, ◌-ℤ◌, nat_le, nat_lt}
 
 abbrev pub half : ℕ → ℕ
 half w = 2 ^ (w - 1)
@@ -25,17 +25,14 @@ not_negative w v = nat_lt v (half w)
 
 -- a number of w bits, read as signed
 abbrev pub signed : ℕ → ℕ → ℤ
-signed w a = cond (not_negative w a) (pos a) (pos a -ℤ pos (2 ^ w))
+signed w a = if not_negative w a then pos a else pos a -ℤ pos (2 ^ w)
 
 -- How often 2^w is in the sum of two signed shares besides the signed value: by the shares' top bits, and whether the value
 -- is not negative.
 abbrev pub flip : Bool → Bool → Bool → ℤ
-flip false false true = pos 0
 flip false false false = pos 1
-flip false true g = pos 0
-flip true false g = pos 0
 flip true true true = negsuc 0
-flip true true false = pos 0
+flip _ _ _ = pos 0
 
 abbrev pub flip_of : ℕ → ℕ → ℕ → ℤ
 flip_of w a b = flip (top w a) (top w b) (not_negative w (shared_value w a b))

@@ -2,92 +2,75 @@
 ghost use Rattle.arithmetic.specs.Theorems.{DigitsCompare, DigitsSuffice, SignByCarry, SignIsSigned, SignedSharesAdd, FloorExact, FloorUnique, FloorFits, ExcessBounded, QuotientsAdd, ShiftsAdd, TestsRead, TestWidthLeast};
 
 // Digits joined level by level compare the numbers, however many digits there are.
-pub fn digits_compare() -> u8
+#[tactic(auto, using(crate::proofs::Comparison::digits_compare))]
+pub fn digits_compare()
     ensures { DigitsCompare }
-{
-    0
-}
+{}
 
 // A number of v bits is told by v / 4 digits, rounded up.
-pub fn digits_suffice() -> u8
+pub fn digits_suffice()
     ensures { DigitsSuffice }
-{
-    0
-}
+{}
 
 // The sign of a shared value, from the shares' top bits and the carry into them.
-pub fn sign_by_carry() -> u8
+#[tactic(auto, using(crate::proofs::Sign::sign_by_carry))]
+pub fn sign_by_carry()
     ensures { SignByCarry }
-{
-    0
-}
+{}
 
 // The sign test is that of the signed value.
-pub fn sign_is_signed() -> u8
+#[tactic(auto, using(crate::proofs::Sign::sign_is_signed))]
+pub fn sign_is_signed()
     ensures { SignIsSigned }
-{
-    0
-}
+{}
 
 // Signed shares add up to the signed value and the flip times 2^w.
-pub fn signed_shares_add() -> u8
+#[tactic(auto, using(crate::proofs::Sign::signed_shares_add))]
+pub fn signed_shares_add()
     ensures { SignedSharesAdd }
-{
-    0
-}
+{}
 
 // The floor and the remainder give the number back.
-pub fn floor_exact() -> u8
+#[tactic(auto, using(crate::proofs::Integers::floor_exact))]
+pub fn floor_exact()
     ensures { FloorExact }
-{
-    0
-}
+{}
 
 // No other quotient and remainder do.
-pub fn floor_unique() -> u8
+pub fn floor_unique()
     ensures { FloorUnique }
-{
-    0
-}
+{}
 
 // The quotient of a number of w bits has w bits.
-pub fn floor_fits() -> u8
+#[tactic(auto, using(crate::proofs::Integers::floor_fits))]
+pub fn floor_fits()
     ensures { FloorFits }
-{
-    0
-}
+{}
 
 // The excess lies between -d and 3 * d.
-pub fn excess_bounded() -> u8
+pub fn excess_bounded()
     ensures { ExcessBounded }
-{
-    0
-}
+{}
 
 // The quotient of a shared value, from its shares' quotients and three tests of the excess.
-pub fn quotients_add() -> u8
+#[tactic(auto, using(crate::proofs::Division::quotients_add))]
+pub fn quotients_add()
     ensures { QuotientsAdd }
-{
-    0
-}
+{}
 
 // At a power of two, from one comparison of the remainders.
-pub fn shifts_add() -> u8
+#[tactic(auto, using(crate::proofs::Division::shifts_add))]
+pub fn shifts_add()
     ensures { ShiftsAdd }
-{
-    0
-}
+{}
 
 // The tests of the excess are signs at every width with room for 6 * d.
-pub fn tests_read() -> u8
+#[tactic(auto, using(crate::proofs::Tests::tests_read))]
+pub fn tests_read()
     ensures { TestsRead }
-{
-    0
-}
+{}
 
 // The test width is the least with that room.
-pub fn test_width_least() -> u8
+pub fn test_width_least()
     ensures { TestWidthLeast }
-{
-    0
-}
+{}

@@ -1,47 +1,65 @@
 // The sheets of a deal: written from sources, and examined pair by pair as they are read again.
-use lookup::half::words::at;
+ghost use Rattle.std.specs.Prelude.{◌<◌, ◌≤◌, ◌↔◌, IsTrue, length};
+ghost use Rattle.lookup.specs.Halves.{sender_from, receiver_from};
+ghost use Rattle.lookup.specs.Lookup.{Fit};
+
+use crate::per_seat::PerSeat;
+use lookup::half::{ReceiverHalf, SenderHalf};
 use refusal::kind::Kind;
 use refusal::per_kind::PerKind;
 use refusal::refusal::Refusal;
+use refusal::seat::Seat;
 use sheet_writer::writer::write_sheet;
+use sheets::layout::MOST_HALVES;
 use sheets::sheet::SheetSource;
 use sources::source::Source;
 use std::alloc::Global;
+use std::fmt;
 
-// No sheet has more bytes: seat 0's, with 8191 halves of each kind.
-const LONGEST: usize = 233449;
+// No sheet has more bytes: seat 0's, with the most halves of each kind, of 34, 160 and 34 bits.
+const LONGEST: usize = (40 + (34 + 160 + 34) * MOST_HALVES as usize + 7) / 8;
 
 // What was drawn of a kind from both sheets.
-#[derive(Clone, Copy)]
+#[derive(Clone, Copy, Debug, PartialEq, Eq)]
 pub struct Tally {
     pub drawn: u32,
     pub fit: u32,
-    // Whether a sheet has more halves than were to be drawn.
+    // Whether a sheet has more halves than were to be drawn: a finding of its own, that guards no value.
     pub more: bool,
 }
 
 // What the two sheets of a deal hold.
-#[derive(Clone, Copy)]
+#[derive(Clone, Copy, Debug, PartialEq, Eq)]
 pub struct Findings {
-    pub seats: [u8; 2],
+    pub seats: PerSeat<Seat>,
     pub tallies: PerKind<Tally>,
 }
 
+impl fmt::Display for Tally {
+    fn fmt<W: fmt::Write>(&self, f: &mut fmt::Formatter<W>) -> fmt::Result {
+        let Tally { drawn, fit, .. } = *self;
+        write!(f, "{drawn} pairs drawn, {fit} fit")
+    }
+}
+
 impl Tally {
-    // Whether each sheet has so many halves, and all fit.
-    fn is_lawful(&self, count: u32) -> bool {
-        self.drawn == count && self.fit == count && !self.more
+    // What a lawful deal of so many halves comes to: each sheet has so many, and all fit.
+    fn lawful(count: u32) -> Tally {
+        Tally {
+            drawn: count,
+            fit: count,
+            more: false,
+        }
     }
 }
 
 impl Findings {
     // Whether the sheets are those of seats 0 and 1, and a lawful deal of so many halves.
     pub fn is_lawful(&self, counts: PerKind<u32>) -> bool {
-        self.seats[0] == 0
-            && self.seats[1] == 1
-            && self.tallies.bit.is_lawful(counts.bit)
-            && self.tallies.ring0.is_lawful(counts.ring0)
-            && self.tallies.ring1.is_lawful(counts.ring1)
+        self.seats.first == Seat::Zero
+            && self.seats.second == Seat::One
+            && Kind::ALL.iter().all(|&kind| self.tallies.get(kind)
+                == Tally::lawful(counts.get(kind)))
     }
 }
 
@@ -54,51 +72,76 @@ pub fn sheet_of<S: Source>(heap: Global, source: &mut S) -> anyhow::Result<Vec<u
 }
 
 // Whether the receiver's mask is the sender's at the receiver's choice.
-fn fits(kind: Kind, sent: &[u32], sought: &[u32]) -> bool {
-    let choice = at(sought, 0);
-    choice < kind.entries() && at(sent, choice as usize) == at(sought, 1)
+fn fits(sent: &[u32], sought: &[u32]) -> bool
+    ensures { let s = sender_from sent.now in let r = receiver_from sought.now in IsTrue result ↔ ((r.choice < length s.masks) × Fit s r) }
+{
+    let ReceiverHalf { choice, mask } = ReceiverHalf::from(sought);
+    SenderHalf::from(sent).masks.get(choice as usize) == Some(&mask)
 }
 
-// Whether the next halves of the two seats fit; none where a list is at its end.
-fn draw_pair<S: Source, R: Source>(kind: Kind, first: &mut S, second: &mut R) -> Option<bool> {
-    let mut mine = [0u32; 17];
-    let mut theirs = [0u32; 17];
-    if first.draw(kind.number(), &mut mine).is_err() {
-        return None;
+// The sheets of the two seats, open.
+impl<'a> PerSeat<SheetSource<'a>> {
+    fn open(first: &'a [u8], second: &'a [u8]) -> Result<PerSeat<SheetSource<'a>>, Refusal> {
+        Ok(PerSeat {
+            first: SheetSource::open(first)?,
+            second: SheetSource::open(second)?,
+        })
     }
-    if second.draw(kind.number(), &mut theirs).is_err() {
-        return None;
-    }
-    if kind.sender() == 0 {
-        Some(fits(kind, &mine, &theirs))
-    } else {
-        Some(fits(kind, &theirs, &mine))
-    }
-}
 
-// Draws so many pairs of a kind, or fewer where a list ends before.
-fn draw_kind<S: Source, R: Source>(kind: Kind, count: u32, first: &mut S, second: &mut R) -> Tally {
-    let mut drawn = 0u32;
-    let mut fit = 0u32;
-    for _i in 0..count {
-        if let Some(fits) = draw_pair(kind, first, second) {
-            drawn = drawn.saturating_add(1);
-            fit = fit.saturating_add(u32::from(fits));
+    fn seats(&self) -> PerSeat<Seat> {
+        PerSeat {
+            first: self.first.seat(),
+            second: self.second.seat(),
         }
     }
-    let number = kind.number();
-    let more = first.afford(number, 1).is_ok() || second.afford(number, 1).is_ok();
-    Tally { drawn, fit, more }
+
+    // Whether the next halves of a kind fit; none where a list is at its end.
+    fn draw(&mut self, kind: Kind) -> Option<bool> {
+        let mine = self.first.take(kind).ok()?;
+        let theirs = self.second.take(kind).ok()?;
+        let (mine, theirs) = (mine.as_slice(), theirs.as_slice());
+        if Seat::Zero.sends(kind) {
+            Some(fits(mine, theirs))
+        } else {
+            Some(fits(theirs, mine))
+        }
+    }
+
+    fn has_more(&self, kind: Kind) -> bool {
+        self.first.check(kind, 1).is_ok() || self.second.check(kind, 1).is_ok()
+    }
+
+    // Draws so many pairs of a kind, or fewer where a list ends before. Two counts are kept, and each draw
+    // changes the sheets, which a loop shows more plainly than a fold.
+    fn tally(&mut self, kind: Kind, count: u32) -> Tally
+        ensures fit { result.fit ≤ result.drawn }
+        ensures drawn { result.drawn ≤ count }
+    {
+        let mut drawn = 0;
+        let mut fit = 0;
+        for _ in 0..count {
+            if let Some(fits) = self.draw(kind) {
+                drawn += 1;
+                fit += u32::from(fits);
+            }
+        }
+        Tally {
+            drawn,
+            fit,
+            more: self.has_more(kind),
+        }
+    }
 }
 
 // Opens two sheets, and draws so many pairs of each kind.
 pub fn examine(first: &[u8], second: &[u8], counts: PerKind<u32>) -> Result<Findings, Refusal> {
-    let mut first = SheetSource::open(first)?;
-    let mut second = SheetSource::open(second)?;
-    let seats = [first.seat(), second.seat()];
-    let bit = draw_kind(Kind::Bit, counts.bit, &mut first, &mut second);
-    let ring0 = draw_kind(Kind::Ring0, counts.ring0, &mut first, &mut second);
-    let ring1 = draw_kind(Kind::Ring1, counts.ring1, &mut first, &mut second);
-    let tallies = PerKind { bit, ring0, ring1 };
-    Ok(Findings { seats, tallies })
+    let mut sheets = PerSeat::open(first, second)?;
+    Ok(Findings {
+        seats: sheets.seats(),
+        tallies: PerKind {
+            bit: sheets.tally(Kind::Bit, counts.bit),
+            ring0: sheets.tally(Kind::Ring0, counts.ring0),
+            ring1: sheets.tally(Kind::Ring1, counts.ring1),
+        },
+    })
 }

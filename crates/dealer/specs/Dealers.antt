@@ -4,15 +4,16 @@ use Rattle.refusal.specs.declared.kind.Kind.{Kind}
 use Rattle.refusal.specs.declared.per_kind.PerKind.{PerKind}
 use Rattle.refusal.specs.Kinds.{number}
 use Rattle.refusal.specs.PerKinds.{at}
+use Rattle.refusal.specs.Seats.{number as seat_number}
 use Rattle.sources.specs.Halves.{Halves, Lawful}
 use Rattle.dealer.specs.declared.dealer.Dealer.{Dealer}
 use Rattle.dealer.specs.Running.{dealt}
 
 abbrev pub dealer_owner : Dealer → ℕ
-dealer_owner d = d.seat
+dealer_owner d = seat_number d.seat
 
 abbrev pub dealer_left : Dealer → Halves
-dealer_left d k = dealt d.seat k (at d.counts k) (at d.running k)
+dealer_left d k = dealt (dealer_owner d) k (at d.counts k) (at d.running k)
 
 -- a dealer made at a seat from a start: kind k runs from start + k, modulo 2^64
 pub record Made (seat start : ℕ) (counts : PerKind ℕ) (d : Dealer) : Type 0 where

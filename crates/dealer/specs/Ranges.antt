@@ -1,15 +1,15 @@
 -- Every field that a dealer deals is in range: what it shows as a source.
-use Rattle.std.specs.Prelude.{◌≡◌, ℕ, zero, suc, ◌+◌, ◌-◌, ◌*◌, ◌/◌, ◌^◌, ◌<◌, true, false, cond, map, length, take, MatchBool, slice_index, refl}
+use Rattle.std.specs.Prelude.{◌≡◌, ℕ, zero, suc, ◌+◌, ◌-◌, ◌*◌, ◌^◌, ◌<◌, true, false, if◌then◌else◌, map, length, take, MatchBool, slice_index, refl}
 use Rattle.std.proofs.Common.{sym, ap, subst, ◌∙◌, mod-lt, arith, lit<}
 use Rattle.std.specs.List.{range_with_len, AllByRecursion}
 use Rattle.std.proofs.lemmas.Nat.{div_below}
 use Rattle.std.proofs.lemmas.List.FromFn.{length-map-range_with_len, get_or-map-range_with_len, take-map-range_with_len}
 use Rattle.refusal.specs.declared.kind.Kind.{Kind}
 use Rattle.refusal.specs.declared.kind.Kind.TheVariants.{Bit, Ring0, Ring1}
-use Rattle.refusal.specs.Kinds.{entries}
+use Rattle.refusal.specs.Kinds.{entries, mask_size, choice_size}
 use Rattle.lookup.specs.Halves.{sender_from}
 use Rattle.sources.specs.Halves.{Half, operation, sends, SenderInRange, ReceiverInRange, InRange}
-use Rattle.dealer.specs.Running.{step, run, mask_low, choice_low, mask, choice, sender_half, receiver_half, half, dealt}
+use Rattle.dealer.specs.Running.{step, run, top_bits, mask, choice, sender_half, receiver_half, half, dealt}
 
 step_lt : (x : ℕ) → step x < 2 ^ 64
 unfolding step
@@ -19,12 +19,12 @@ run_lt : (n x : ℕ) → 0 < n → run n x < 2 ^ 64
 run_lt zero x h = absurd (omega arith)
 run_lt (suc n) x h = step_lt (run n x)
 
-top_mask_lt : (k : Kind) (y : ℕ) → y < 2 ^ 64 → y / 2 ^ mask_low k < (operation k).size
+top_mask_lt : (k : Kind) (y : ℕ) → y < 2 ^ 64 → top_bits (mask_size k) y < (operation k).size
 top_mask_lt Bit y h = div_below y (2 ^ 62) 4 (lit< tt) h
 top_mask_lt Ring0 y h = div_below y (2 ^ 32) (2 ^ 32) (lit< tt) h
 top_mask_lt Ring1 y h = div_below y (2 ^ 32) (2 ^ 32) (lit< tt) h
 
-top_choice_lt : (k : Kind) (y : ℕ) → y < 2 ^ 64 → y / 2 ^ choice_low k < entries k
+top_choice_lt : (k : Kind) (y : ℕ) → y < 2 ^ 64 → top_bits (choice_size k) y < entries k
 top_choice_lt Bit y h = div_below y (2 ^ 60) 16 (lit< tt) h
 top_choice_lt Ring0 y h = div_below y (2 ^ 62) 4 (lit< tt) h
 top_choice_lt Ring1 y h = div_below y (2 ^ 62) 4 (lit< tt) h
@@ -70,7 +70,7 @@ receiver_in_range k x = record { long = refl; sound = record { choice_in = choic
 
 half_in_range : (seat : ℕ) (k : Kind) (x : ℕ) → InRange seat k (half seat k x)
 half_in_range seat k x =
-    elim (sends seat k) as (λ b. MatchBool b (SenderInRange k (cond b (sender_half k x) (receiver_half k x))) (ReceiverInRange k (cond b (sender_half k x) (receiver_half k x)))) [
+    elim (sends seat k) as (λ b. MatchBool b (SenderInRange k (if b then sender_half k x else receiver_half k x)) (ReceiverInRange k (if b then sender_half k x else receiver_half k x))) [
       | true ↦ sender_in_range k x
       | false ↦ receiver_in_range k x
     ]

@@ -1,7 +1,8 @@
 -- What is done to each party's share alone: handing in, sums, differences, multiples.
-use Rattle.std.proofs.Common.{◌≡◌, ℕ, zero, suc, ◌+◌, ◌-◌, ◌*◌, ◌%◌, ◌^◌, ◌<◌, ◌≤◌, sym, ap, ◌∙◌, ap₂, inl, inr, mod-lt, mod-eq_of_lt, add-mul, mul-zero, mul-suc, arith, pow_pos}
-use native.Mathlib.Nat.{add-mod, mod-mod, add-mod_left}
-use Rattle.std.proofs.lemmas.Bool.{cases_lt}
+use Rattle.std.proofs.Common.{◌≡◌, ℕ, ◌+◌, ◌-◌, ◌*◌, ◌%◌, ◌^◌, ◌<◌, sym, ap, ◌∙◌, ap₂, inl, inr, mod-lt, add-mul, arith, pow_pos}
+use Rattle.std.proofs.Math.Nat.{add-mod, mod-mod, add-mod_left}
+use Rattle.std.proofs.lemmas.Nat.{mul-mod_first}
+use Rattle.arithmetic.proofs.Sign.{below_two}
 use Rattle.gadgets.specs.Shares.{SharedNumber}
 
 mix : (a b c d : ℕ) → (a + b) + (c + d) ≡ (a + c) + (b + d)
@@ -19,22 +20,11 @@ added w x0 x1 y0 y1 v u s t = record {
 
 -- the two complements share the complement
 complements : (n y0 y1 u : ℕ) → y0 < n → y1 < n → (y0 + y1) % n ≡ u → ((n - y0) + (n - y1)) % n ≡ (n - u) % n
-complements n y0 y1 u h0 h1 e = elim (cases_lt (y0 + y1) n) [ inl l ↦ under l | inr l ↦ past l ]
-  where
-    under : y0 + y1 < n → ((n - y0) + (n - y1)) % n ≡ (n - u) % n
-    under l =
-        let f : u ≡ y0 + y1 = sym e ∙ mod-eq_of_lt l in
-        let g : (n - y0) + (n - y1) ≡ n + (n - u) = omega arith in
-        ap (λ z. z % n) g ∙ add-mod_left n (n - u)
-
-    past : n ≤ y0 + y1 → ((n - y0) + (n - y1)) % n ≡ (n - u) % n
-    past l =
-        let d = y0 + y1 - n in
-        let k : y0 + y1 ≡ n + d = omega arith in
-        let m : d < n = omega arith in
-        let f : u ≡ d = sym e ∙ ap (λ z. z % n) k ∙ add-mod_left n d ∙ mod-eq_of_lt m in
-        let g : (n - y0) + (n - y1) ≡ n - u = omega arith in
-        ap (λ z. z % n) g
+complements n y0 y1 u h0 h1 e =
+    elim (below_two n (y0 + y1) (omega arith)) [
+      | inl c ↦ let g : (n - y0) + (n - y1) ≡ n + (n - u) = omega arith in ap (λ z. z % n) g ∙ add-mod_left n (n - u)
+      | inr c ↦ let g : (n - y0) + (n - y1) ≡ n - u = omega arith in ap (λ z. z % n) g
+    ]
 
 pub subtracted : (w x0 x1 y0 y1 v u : ℕ) → SharedNumber w x0 x1 v → SharedNumber w y0 y1 u →
     SharedNumber w ((x0 + (2 ^ w - y0)) % 2 ^ w) ((x1 + (2 ^ w - y1)) % 2 ^ w) ((v + (2 ^ w - u)) % 2 ^ w)
@@ -46,15 +36,9 @@ subtracted w x0 x1 y0 y1 v u s t = record {
       ∙ sym (add-mod v (2 ^ w - u) (2 ^ w));
 }
 
-times : (n x k : ℕ) → (x * k) % n ≡ (x % n * k) % n
-times n x zero = ap (λ z. z % n) (mul-zero x ∙ sym (mul-zero (x % n)))
-times n x (suc k) =
-    ap (λ z. z % n) (mul-suc x k) ∙ add-mod (x * k) x n ∙ ap₂ (λ y z. (y + z) % n) (times n x k) (sym (mod-mod x n)) ∙ sym (add-mod (x % n * k) (x % n) n)
-    ∙ ap (λ z. z % n) (sym (mul-suc (x % n) k))
-
 pub scaled : (w x0 x1 v k : ℕ) → SharedNumber w x0 x1 v → SharedNumber w (x0 * k % 2 ^ w) (x1 * k % 2 ^ w) (v * k % 2 ^ w)
 scaled w x0 x1 v k s = record {
   below_0 = mod-lt (x0 * k) (pow_pos w);
   below_1 = mod-lt (x1 * k) (pow_pos w);
-  adds = sym (add-mod (x0 * k) (x1 * k) (2 ^ w)) ∙ ap (λ z. z % 2 ^ w) (sym (add-mul x0 x1 k)) ∙ times (2 ^ w) (x0 + x1) k ∙ ap (λ z. z * k % 2 ^ w) s.adds;
+  adds = sym (add-mod (x0 * k) (x1 * k) (2 ^ w)) ∙ ap (λ z. z % 2 ^ w) (sym (add-mul x0 x1 k)) ∙ sym (mul-mod_first (x0 + x1) k (2 ^ w)) ∙ ap (λ z. z * k % 2 ^ w) s.adds;
 }

@@ -1,51 +1,35 @@
 -- The receipts that the ideal functionality answers add up to the prices of what it accepted.
-use Rattle.std.proofs.Common.{◌≡◌, ℕ, ◌+◌, List, [], ◌∷◌, refl, ap, arith}
-use Rattle.refusal.specs.declared.kind.Kind.{Kind}
-use Rattle.protocol.specs.Seats.{Seat, seat_0, seat_1}
+use Rattle.std.proofs.Common.{◌≡◌, ℕ, ◌+◌, List, [], ◌∷◌, refl, ap, ◌∙◌, sum_by, arith, Ok, Err}
+use Rattle.std.proofs.lemmas.List.Sums.{sum_by-cons}
+use Rattle.refusal.specs.declared.seat.Seat.{Seat}
+use Rattle.refusal.specs.declared.seat.Seat.TheVariants.{Zero, One}
 use Rattle.protocol.specs.Certificate.{steps}
 use Rattle.engine.specs.declared.command.Command.{Command}
 use Rattle.engine.specs.declared.command.Numbers.{Numbers}
 use Rattle.engine.specs.declared.command.Receipt.{Receipt}
-use Rattle.engine.specs.State.{Answer, needs, spent, carried}
-use Rattle.engine.specs.Judge.{Verdict, refuse, accept, judge}
-use Rattle.engine.specs.Ideal.{Ideal, Meaning, sets, flags, opens, meaning, reveals, carried_out, ruled, step, charged, charged_messages, bill, message_bill}
+use Rattle.engine.specs.State.{Answer, receipt, receipt_count}
+use Rattle.engine.specs.Judge.{Verdict, judge}
+use Rattle.engine.specs.Ideal.{Ideal, Meaning, opens, meaning, reveals, carried_out, ruled, step, charged, bill_by}
 
--- a value that is opened is no receipt
-reveals_spent : (g f : Seat) (v : ℕ) (log : Seat → List Answer) (k : Kind) → spent (reveals g v log f) k ≡ spent (log f) k
-reveals_spent seat_0 seat_0 v log k = refl
-reveals_spent seat_0 seat_1 v log k = refl
-reveals_spent seat_1 seat_0 v log k = refl
-reveals_spent seat_1 seat_1 v log k = refl
+-- what receipts count for, in any way of counting them
+module _ (n : Receipt → ℕ) where
+  abbrev total : List Answer → ℕ
+  total log = sum_by (receipt_count n) log
 
-reveals_carried : (g f : Seat) (v : ℕ) (log : Seat → List Answer) → carried (reveals g v log f) ≡ carried (log f)
-reveals_carried seat_0 seat_0 v log = refl
-reveals_carried seat_0 seat_1 v log = refl
-reveals_carried seat_1 seat_0 v log = refl
-reveals_carried seat_1 seat_1 v log = refl
+  -- a value that is opened is no receipt
+  reveals_total : (g f : Seat) (v : ℕ) (log : Seat → List Answer) → total (reveals g v log f) ≡ total (log f)
+  reveals_total Zero Zero v log = refl
+  reveals_total One One v log = refl
+  reveals_total _ _ v log = refl
 
-module _ (f : Seat) where
-  out_spent : (q : Receipt) (w : Ideal) (m : Meaning) (k : Kind) → spent ((carried_out q w m).log f) k ≡ needs q k + spent (w.log f) k
-  out_spent q w (sets t i v) k = refl
-  out_spent q w (flags t b) k = refl
-  out_spent q w (opens g v) k = ap (λ n. needs q k + n) (reveals_spent g f v w.log k)
+  out_total : (f : Seat) (q : Receipt) (w : Ideal) (m : Meaning) → total ((carried_out q w m).log f) ≡ n q + total (w.log f)
+  out_total f q w (opens g v) = sum_by-cons (receipt_count n) (receipt q) (reveals g v w.log f) ∙ ap (λ m. n q + m) (reveals_total g f v w.log)
+  out_total f q w _ = sum_by-cons (receipt_count n) (receipt q) (w.log f)
 
-  out_carried : (q : Receipt) (w : Ideal) (m : Meaning) → carried ((carried_out q w m).log f) ≡ q.messages + carried (w.log f)
-  out_carried q w (sets t i v) = refl
-  out_carried q w (flags t b) = refl
-  out_carried q w (opens g v) = ap (λ n. q.messages + n) (reveals_carried g f v w.log)
+  ruled_total : (f : Seat) (c : Command Numbers) (w : Ideal) (v : Verdict) → total ((ruled c w v).log f) ≡ charged n v + total (w.log f)
+  ruled_total f c w (Err r) = omega arith
+  ruled_total f c w (Ok q) = out_total f q w (meaning c w)
 
-  ruled_spent : (c : Command Numbers) (w : Ideal) (v : Verdict) (k : Kind) → spent ((ruled c w v).log f) k ≡ charged v k + spent (w.log f) k
-  ruled_spent c w (refuse r) k = omega arith
-  ruled_spent c w (accept q) k = out_spent q w (meaning c w) k
-
-  ruled_carried : (c : Command Numbers) (w : Ideal) (v : Verdict) → carried ((ruled c w v).log f) ≡ charged_messages v + carried (w.log f)
-  ruled_carried c w (refuse r) = omega arith
-  ruled_carried c w (accept q) = out_carried q w (meaning c w)
-
-  pub bill_is : (cs : List (Command Numbers)) (w : Ideal) (k : Kind) → spent ((steps step cs w).log f) k ≡ bill cs w k + spent (w.log f) k
-  bill_is [] w k = omega arith
-  bill_is (c ∷ cs) w k = let e = bill_is cs (step c w) k in let h = ruled_spent c w (judge c w.public) k in omega (arith, e, h)
-
-  pub message_bill_is : (cs : List (Command Numbers)) (w : Ideal) → carried ((steps step cs w).log f) ≡ message_bill cs w + carried (w.log f)
-  message_bill_is [] w = omega arith
-  message_bill_is (c ∷ cs) w = let e = message_bill_is cs (step c w) in let h = ruled_carried c w (judge c w.public) in omega (arith, e, h)
+  pub bill_is : (f : Seat) (cs : List (Command Numbers)) (w : Ideal) → total ((steps step cs w).log f) ≡ bill_by n cs w + total (w.log f)
+  bill_is f [] w = omega arith
+  bill_is f (c ∷ cs) w = omega (arith, bill_is f cs (step c w), ruled_total f c w (judge c w.public))

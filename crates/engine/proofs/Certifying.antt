@@ -1,9 +1,11 @@
 -- The certificate, from what each command shows.
 use Rattle.std.proofs.Common.{◌≡◌, ◌+◌, ◌^◌, ◌<◌, ◌≤◌, List, length, sym, refl, ap, ◌∙◌, subst, arith, pow_pos}
-use native.Mathlib.Nat.{zero-mod}
+use Rattle.std.proofs.Math.Nat.{zero-mod}
 use Rattle.refusal.specs.declared.kind.Kind.{Kind}
 use Rattle.sources.specs.Halves.{Halves}
-use Rattle.protocol.specs.Seats.{Seat, seat_0, seat_1, other, LawfulAt}
+use Rattle.refusal.specs.declared.seat.Seat.{Seat}
+use Rattle.refusal.specs.declared.seat.Seat.TheVariants.{Zero, One}
+use Rattle.protocol.specs.Seats.{other, LawfulAt}
 use Rattle.protocol.specs.Run.{messages}
 use Rattle.protocol.specs.Theorems.{Sound}
 use Rattle.protocol.specs.Certificate.{steps, Certified}
@@ -13,7 +15,7 @@ use Rattle.protocol.proofs.Certifying.{certified}
 use Rattle.engine.specs.declared.command.Command.{Command}
 use Rattle.engine.specs.declared.command.Numbers.{Numbers}
 use Rattle.engine.specs.Commands.{told}
-use Rattle.engine.specs.State.{spent, carried, Public, Local}
+use Rattle.engine.specs.State.{needs, spent, carried, Public, Local}
 use Rattle.engine.specs.Performing.{course}
 use Rattle.engine.specs.Ideal.{Ideal, step, shown, bill, message_bill, Shared, SharedAt}
 use Rattle.engine.specs.Promise.{Alongside, left_at, budget_of, course_of, CommandsStand, Start, fresh, fresh_party, played, Certificate, EngineCertified}
@@ -22,7 +24,7 @@ use Rattle.engine.proofs.Pricing.{spends, talks}
 use Rattle.engine.proofs.Agreeing.{agrees}
 use Rattle.engine.proofs.Balancing.{Balanced, balances}
 use Rattle.engine.proofs.Hiding.{publics, hides, number_at, flag_at}
-use Rattle.engine.proofs.Billing.{bill_is, message_bill_is}
+use Rattle.engine.proofs.Billing.{bill_is}
 
 -- shares that make up the ideal functionality's values are in range
 alongside : (f : Seat) (w : Ideal) (a b : Local) → SharedAt f w a b → Alongside a b
@@ -55,18 +57,18 @@ module _ (p : Public) (s : Start p) where
     make_up = record {
       number = λ i. record { below_0 = pow_pos (p.shape.widths i); below_1 = pow_pos (p.shape.widths i); adds = zero-mod (2 ^ p.shape.widths i) };
       flag = λ i. record { bit_0 = omega arith; bit_1 = omega arith; opens = refl };
-      narrow = λ i. let e = s.no_number i in omega (arith, e);
+      narrow = λ i. omega (arith, s.no_number i);
     };
     party_0 = refl;
     party_1 = refl;
   }
 
   starts_at : (f : Seat) → SharedAt f (fresh p) (fresh_party p) (fresh_party p)
-  starts_at seat_0 = starts
-  starts_at seat_1 = starts
+  starts_at Zero = starts
+  starts_at One = starts
 
   level : Alongside (fresh_party p) (fresh_party p)
-  level = alongside seat_0 (fresh p) (fresh_party p) (fresh_party p) starts
+  level = alongside Zero (fresh p) (fresh_party p) (fresh_party p) starts
 
   balanced : (f : Seat) (cs : List (Command Numbers)) (hf ho : Halves) → Balanced f (p.left f) p.budget (played p f cs hf ho).near
   balanced f cs hf ho =
@@ -77,32 +79,32 @@ module _ (p : Public) (s : Start p) where
   left_is f cs hf ho k = (engine f).accounts cs (fresh_party p) (fresh_party p) hf ho level k
 
   used_is : (f : Seat) (cs : List (Command Numbers)) (hf ho : Halves) (k : Kind) → (played p f cs hf ho).used k ≡ spent (played p f cs hf ho).near.log k
-  used_is f cs hf ho k = let e = left_is f cs hf ho k in let h = (balanced f cs hf ho).halves k in omega (arith, e, h)
+  used_is f cs hf ho k = omega (arith, left_is f cs hf ho k, (balanced f cs hf ho).halves k)
 
   budget_is : (f : Seat) (cs : List (Command Numbers)) (hf ho : Halves) → messages (played p f cs hf ho) + (played p f cs hf ho).near.public.budget ≡ p.budget
   budget_is f cs hf ho = (engine f).message_accounts cs (fresh_party p) (fresh_party p) hf ho level
 
   sent_is : (f : Seat) (cs : List (Command Numbers)) (hf ho : Halves) → messages (played p f cs hf ho) ≡ carried (played p f cs hf ho).near.log
-  sent_is f cs hf ho = let e = budget_is f cs hf ho in let h = (balanced f cs hf ho).messages in omega (arith, e, h)
+  sent_is f cs hf ho = omega (arith, budget_is f cs hf ho, (balanced f cs hf ho).messages)
 
-  ideal_is : (cs : List (Command Numbers)) (h0 h1 : Halves) → LawfulAt seat_0 h0 h1 → ((k : Kind) → p.left seat_0 k ≤ length (h0 k)) →
-      Sound seat_0 (Shared (steps step cs (fresh p))) h0 h1 (played p seat_0 cs h0 h1)
-  ideal_is cs h0 h1 law enough = (engine seat_0).sound cs (fresh p) (fresh_party p) (fresh_party p) h0 h1 starts law enough
+  ideal_is : (cs : List (Command Numbers)) (h0 h1 : Halves) → LawfulAt Zero h0 h1 → ((k : Kind) → p.left Zero k ≤ length (h0 k)) →
+      Sound Zero (Shared (steps step cs (fresh p))) h0 h1 (played p Zero cs h0 h1)
+  ideal_is cs h0 h1 law enough = (engine Zero).sound cs (fresh p) (fresh_party p) (fresh_party p) h0 h1 starts law enough
 
-  billed_is : (cs : List (Command Numbers)) (h0 h1 : Halves) → LawfulAt seat_0 h0 h1 → ((k : Kind) → p.left seat_0 k ≤ length (h0 k)) →
-      ((k : Kind) → (played p seat_0 cs h0 h1).used k ≡ bill cs (fresh p) k) × (messages (played p seat_0 cs h0 h1) ≡ message_bill cs (fresh p))
+  billed_is : (cs : List (Command Numbers)) (h0 h1 : Halves) → LawfulAt Zero h0 h1 → ((k : Kind) → p.left Zero k ≤ length (h0 k)) →
+      ((k : Kind) → (played p Zero cs h0 h1).used k ≡ bill cs (fresh p) k) × (messages (played p Zero cs h0 h1) ≡ message_bill cs (fresh p))
   billed_is cs h0 h1 law enough =
-      let o = played p seat_0 cs h0 h1 in
-      let same : o.near.log ≡ (steps step cs (fresh p)).log seat_0 = ap (λ (x : Local). x.log) (ideal_is cs h0 h1 law enough).related.party_0 in (
-        (λ k. used_is seat_0 cs h0 h1 k ∙ ap (λ l. spent l k) same ∙ bill_is seat_0 cs (fresh p) k ∙ omega arith),
-        sent_is seat_0 cs h0 h1 ∙ ap carried same ∙ message_bill_is seat_0 cs (fresh p) ∙ omega arith,
+      let o = played p Zero cs h0 h1 in
+      let same : o.near.log ≡ (steps step cs (fresh p)).log Zero = ap (λ (x : Local). x.log) (ideal_is cs h0 h1 law enough).related.party_0 in (
+        (λ k. used_is Zero cs h0 h1 k ∙ ap (λ l. spent l k) same ∙ bill_is (λ q. needs q k) Zero cs (fresh p) ∙ omega arith),
+        sent_is Zero cs h0 h1 ∙ ap carried same ∙ bill_is (λ q. q.messages) Zero cs (fresh p) ∙ omega arith,
       )
 
   certificate : Certificate p
   certificate = record {
     as_ideal = ideal_is;
     billed = billed_is;
-    one_session = λ cs h0 h1. session_flipped Alongside (course_of seat_0) (course_of seat_1) cs (fresh_party p) (fresh_party p) h0 h1 (agrees seat_0) level;
+    one_session = λ cs h0 h1. session_flipped Alongside (course_of Zero) (course_of One) cs (fresh_party p) (fresh_party p) h0 h1 (agrees Zero) level;
     used = used_is;
     left = left_is;
     sent = sent_is;

@@ -8,4 +8,3 @@ pub mod Balancing
 pub mod Hiding
 pub mod Billing
 pub mod Certifying
-pub mod Examples

@@ -3,11 +3,12 @@ use Rattle.std.specs.Prelude.{ℕ, zero, suc}
 use Rattle.engine.specs.declared.command.Command.{Command}
 use Rattle.engine.specs.declared.command.Command.TheVariants.{Lodge, Add, Subtract, Scale, Less, Sign, Both, Keep, Divide, Shift, Open, Tell}
 use Rattle.engine.specs.declared.command.Numbers.{Numbers}
-use Rattle.protocol.specs.Seats.{Seat, seat_0, seat_1}
+use Rattle.refusal.specs.declared.seat.Seat.{Seat}
+use Rattle.refusal.specs.declared.seat.Seat.TheVariants.{Zero, One}
 
 abbrev pub own : Seat → Numbers → ℕ
-own seat_0 n = n.of0
-own seat_1 n = n.of1
+own Zero n = n.of0
+own One n = n.of1
 
 -- the command as the party at a seat is told it: with its own number, and not the other's
 abbrev pub told : Seat → Command Numbers → Command ℕ
@@ -26,5 +27,5 @@ told f (Tell s g) = Tell s g
 
 -- the seat with a number; a number over 1 is refused before it is read
 abbrev pub seat_of : ℕ → Seat
-seat_of zero = seat_0
-seat_of (suc n) = seat_1
+seat_of zero = Zero
+seat_of (suc n) = One

@@ -1,10 +1,13 @@
 -- What is refused and what a command costs, by what is public alone.
-use Rattle.std.specs.Prelude.{ℕ, ◌+◌, ◌-◌, ◌*◌, Bool, true, false, ◌&&◌, List, [], ◌∷◌, ◌==◌, nat_le, nat_lt}
+use Rattle.std.specs.Prelude.{ℕ, ◌+◌, ◌-◌, ◌*◌, Bool, true, false, ◌&&◌, List, [], ◌∷◌, ◌==◌, nat_le, nat_lt, Result, Ok, Err}
+use Rattle.std.specs.List.{list_all}
 use Rattle.refusal.specs.declared.kind.Kind.{Kind}
 use Rattle.refusal.specs.declared.kind.Kind.TheVariants.{Bit, Ring0, Ring1}
 use Rattle.refusal.specs.Kinds.{number as kind_number}
 use Rattle.refusal.specs.Refusals.{Code, plain}
-use Rattle.protocol.specs.Seats.{Seat, seat_0, seat_1, number}
+use Rattle.refusal.specs.declared.seat.Seat.{Seat}
+use Rattle.refusal.specs.declared.seat.Seat.TheVariants.{Zero, One}
+use Rattle.refusal.specs.Seats.{number}
 use Rattle.gadgets.specs.Prices.{prices}
 use Rattle.gadgets.specs.Comparison.{comparison_price}
 use Rattle.gadgets.specs.Division.{division_price}
@@ -14,13 +17,13 @@ use Rattle.engine.specs.declared.command.Command.TheVariants.{Lodge, Add, Subtra
 use Rattle.engine.specs.declared.command.Receipt.{Receipt}
 use Rattle.engine.specs.State.{needs, Shape, Public}
 
-pub data Verdict : Type 0 where
-  refuse : Code → Verdict
-  accept : Receipt → Verdict
+-- a command's price, or how it is refused
+abbrev pub Verdict : Type 0
+Verdict = Result Receipt Code
 
 abbrev pub unless : Bool → Code → Verdict → Verdict
 unless true r v = v
-unless false r v = refuse r
+unless false r v = Err r
 
 -- correlations short, at a party, of a kind, so many lacking; and messages short
 abbrev pub correlations_short : Seat → Kind → ℕ → Code
@@ -43,40 +46,29 @@ module _ {N : Type 0} where
   -- the registers that a command names
   abbrev pub named : Command N → List ℕ
   named (Lodge t w n) = t ∷ []
-  named (Add t l r) = t ∷ (l ∷ (r ∷ []))
-  named (Subtract t l r) = t ∷ (l ∷ (r ∷ []))
-  named (Scale t s k) = t ∷ (s ∷ [])
+  named (Add t l r) = t ∷ l ∷ r ∷ []
+  named (Subtract t l r) = t ∷ l ∷ r ∷ []
+  named (Scale t s k) = t ∷ s ∷ []
   named (Less t w n) = t ∷ []
-  named (Sign t s) = t ∷ (s ∷ [])
-  named (Both t l r) = t ∷ (l ∷ (r ∷ []))
-  named (Keep t n b) = t ∷ (n ∷ (b ∷ []))
-  named (Divide t s d) = t ∷ (s ∷ [])
-  named (Shift t s n) = t ∷ (s ∷ [])
+  named (Sign t s) = t ∷ s ∷ []
+  named (Both t l r) = t ∷ l ∷ r ∷ []
+  named (Keep t n b) = t ∷ n ∷ b ∷ []
+  named (Divide t s d) = t ∷ s ∷ []
+  named (Shift t s n) = t ∷ s ∷ []
   named (Open s g) = s ∷ []
   named (Tell s g) = s ∷ []
 
   -- a width that is given is 2 to 32
   abbrev pub width_fits : Command N → Bool
   width_fits (Lodge t w n) = nat_le 2 w && nat_le w 32
-  width_fits (Add t l r) = true
-  width_fits (Subtract t l r) = true
-  width_fits (Scale t s k) = true
   width_fits (Less t w n) = nat_le 2 w && nat_le w 32
-  width_fits (Sign t s) = true
-  width_fits (Both t l r) = true
-  width_fits (Keep t n b) = true
-  width_fits (Divide t s d) = true
-  width_fits (Shift t s n) = true
-  width_fits (Open s g) = true
-  width_fits (Tell s g) = true
+  width_fits _ = true
 
   -- every operand is filled
   abbrev pub operands_filled : Command N → Shape → Bool
-  operands_filled (Lodge t w n) p = true
   operands_filled (Add t l r) p = nat_lt 1 (p.widths l) && nat_lt 1 (p.widths r)
   operands_filled (Subtract t l r) p = nat_lt 1 (p.widths l) && nat_lt 1 (p.widths r)
   operands_filled (Scale t s k) p = nat_lt 1 (p.widths s)
-  operands_filled (Less t w n) p = true
   operands_filled (Sign t s) p = nat_lt 1 (p.widths s)
   operands_filled (Both t l r) p = p.filled l && p.filled r
   operands_filled (Keep t n b) p = nat_lt 1 (p.widths n) && p.filled b
@@ -84,43 +76,24 @@ module _ {N : Type 0} where
   operands_filled (Shift t s n) p = nat_lt 1 (p.widths s)
   operands_filled (Open s g) p = nat_lt 1 (p.widths s)
   operands_filled (Tell s g) p = p.filled s
+  operands_filled _ p = true
 
   -- the operands of a sum or difference are as wide as each other
   abbrev pub widths_agree : Command N → Shape → Bool
-  widths_agree (Lodge t w n) p = true
   widths_agree (Add t l r) p = p.widths l == p.widths r
   widths_agree (Subtract t l r) p = p.widths l == p.widths r
-  widths_agree (Scale t s k) p = true
-  widths_agree (Less t w n) p = true
-  widths_agree (Sign t s) p = true
-  widths_agree (Both t l r) p = true
-  widths_agree (Keep t n b) p = true
-  widths_agree (Divide t s d) p = true
-  widths_agree (Shift t s n) p = true
-  widths_agree (Open s g) p = true
-  widths_agree (Tell s g) p = true
+  widths_agree _ p = true
 
   -- a divisor, a number of places, a seat are in range
   abbrev pub arguments_fit : Command N → Shape → Bool
-  arguments_fit (Lodge t w n) p = true
-  arguments_fit (Add t l r) p = true
-  arguments_fit (Subtract t l r) p = true
-  arguments_fit (Scale t s k) p = true
-  arguments_fit (Less t w n) p = true
-  arguments_fit (Sign t s) p = true
-  arguments_fit (Both t l r) p = true
-  arguments_fit (Keep t n b) p = true
   arguments_fit (Divide t s d) p = nat_le 1 d && nat_le d 65535
   arguments_fit (Shift t s n) p = nat_le n (p.widths s - 1)
   arguments_fit (Open s g) p = nat_le g 1
   arguments_fit (Tell s g) p = nat_le g 1
+  arguments_fit _ p = true
 
   -- what a command costs, and so what its receipt says
   abbrev pub price : Command N → Shape → Receipt
-  price (Lodge t w n) p = free
-  price (Add t l r) p = free
-  price (Subtract t l r) p = free
-  price (Scale t s k) p = free
   price (Less t w n) p = lookups (prices (comparison_price w) 0 0)
   price (Sign t s) p = lookups (prices (comparison_price (p.widths s - 1)) 0 0)
   price (Both t l r) p = lookups (prices 1 0 0)
@@ -129,15 +102,12 @@ module _ {N : Type 0} where
   price (Shift t s n) p = lookups (shift_price (p.widths s) n)
   price (Open s g) p = one_message
   price (Tell s g) p = one_message
-
-abbrev pub all_registers : List ℕ → Bool
-all_registers [] = true
-all_registers (i ∷ is) = nat_le i 31 && all_registers is
+  price _ p = free
 
 -- The checks that a party makes by its registers, in their order, and then v.
 abbrev pub checked : {N : Type 0} → Command N → Shape → Verdict → Verdict
 checked c p v =
-    unless (all_registers (named c)) (plain 4)
+    unless (list_all (λ i. nat_le i 31) (named c)) (plain 4)
     (unless (width_fits c) (plain 5)
     (unless (operands_filled c p) (plain 6)
     (unless (widths_agree c p) (plain 7)
@@ -154,14 +124,14 @@ affordable g q left v =
 -- seat 0's halves, seat 1's, the channel's budget
 abbrev pub charge : Receipt → Public → Verdict
 charge q p =
-    affordable seat_0 q (p.left seat_0)
-    (affordable seat_1 q (p.left seat_1)
-    (unless (nat_le q.messages p.budget) (budget_short (q.messages - p.budget)) (accept q)))
+    affordable Zero q (p.left Zero)
+    (affordable One q (p.left One)
+    (unless (nat_le q.messages p.budget) (budget_short (q.messages - p.budget)) (Ok q)))
 
 -- All checks in their order. (That nothing is under way, that both parties have the same registers filled, and that no message
 -- waits, is so in every session.)
 abbrev pub judge : {N : Type 0} → Command N → Public → Verdict
 judge c p =
-    unless (p.seats seat_0 == 0 && p.seats seat_1 == 1) (plain 1)
+    unless (p.seats Zero == 0 && p.seats One == 1) (plain 1)
     (unless (nat_lt 0 p.capacity && nat_le 16 p.longest) (plain 3)
     (checked c p.shape (charge (price c p.shape) p)))

@@ -3,7 +3,9 @@ use Rattle.std.specs.Prelude.{◌≡◌, ℕ, ◌+◌, ◌^◌, ◌<◌, ◌≤�
 use Rattle.refusal.specs.declared.kind.Kind.{Kind}
 use Rattle.lookup.specs.Once.{ExactlyOne}
 use Rattle.sources.specs.Halves.{Halves}
-use Rattle.protocol.specs.Seats.{Seat, seat_0, seat_1, other, LawfulAt}
+use Rattle.refusal.specs.declared.seat.Seat.{Seat}
+use Rattle.refusal.specs.declared.seat.Seat.TheVariants.{Zero, One}
+use Rattle.protocol.specs.Seats.{other, LawfulAt}
 use Rattle.protocol.specs.Course.{Course}
 use Rattle.protocol.specs.Run.{Outcome, messages, flipped}
 use Rattle.protocol.specs.Theorems.{Sound, ExplainsBefore}
@@ -64,13 +66,13 @@ pub record Certificate (p : Public) : Type 0 where
   -- Over a lawful deal the parties' shares make up the values of the ideal functionality after the same commands; their answers
   -- (every refusal with what it carries, every receipt, every value opened), counts and budget are its own; and of the deal just
   -- the used front is gone.
-  pub as_ideal : (cs : List (Command Numbers)) (h0 h1 : Halves) → LawfulAt seat_0 h0 h1 → ((k : Kind) → p.left seat_0 k ≤ length (h0 k)) →
-      Sound seat_0 (Shared (steps step cs (fresh p))) h0 h1 (played p seat_0 cs h0 h1)
+  pub as_ideal : (cs : List (Command Numbers)) (h0 h1 : Halves) → LawfulAt Zero h0 h1 → ((k : Kind) → p.left Zero k ≤ length (h0 k)) →
+      Sound Zero (Shared (steps step cs (fresh p))) h0 h1 (played p Zero cs h0 h1)
   -- What is used is what the prices of the accepted commands add up to.
-  pub billed : (cs : List (Command Numbers)) (h0 h1 : Halves) → LawfulAt seat_0 h0 h1 → ((k : Kind) → p.left seat_0 k ≤ length (h0 k)) →
-      ((k : Kind) → (played p seat_0 cs h0 h1).used k ≡ bill cs (fresh p) k) × (messages (played p seat_0 cs h0 h1) ≡ message_bill cs (fresh p))
+  pub billed : (cs : List (Command Numbers)) (h0 h1 : Halves) → LawfulAt Zero h0 h1 → ((k : Kind) → p.left Zero k ≤ length (h0 k)) →
+      ((k : Kind) → (played p Zero cs h0 h1).used k ≡ bill cs (fresh p) k) × (messages (played p Zero cs h0 h1) ≡ message_bill cs (fresh p))
   -- Lawful deal or not: both seats see one session;
-  pub one_session : (cs : List (Command Numbers)) (h0 h1 : Halves) → played p seat_1 cs h1 h0 ≡ flipped (played p seat_0 cs h0 h1)
+  pub one_session : (cs : List (Command Numbers)) (h0 h1 : Halves) → played p One cs h1 h0 ≡ flipped (played p Zero cs h0 h1)
   -- what is used of each kind is what the receipts add up to, and what the party's count went down by;
   pub used : (f : Seat) (cs : List (Command Numbers)) (hf ho : Halves) (k : Kind) → (played p f cs hf ho).used k ≡ spent (played p f cs hf ho).near.log k
   pub left : (f : Seat) (cs : List (Command Numbers)) (hf ho : Halves) (k : Kind) → (played p f cs hf ho).used k + (played p f cs hf ho).near.public.left f k ≡ p.left f k

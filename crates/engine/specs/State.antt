@@ -1,9 +1,9 @@
 -- What is public in a session, what a party holds, and what it is answered.
-use Rattle.std.specs.Prelude.{ℕ, ◌+◌, ◌-◌, Bool, true, cond, List, [], ◌∷◌, ◌==◌}
+use Rattle.std.specs.Prelude.{ℕ, ◌-◌, Bool, true, if◌then◌else◌, List, ◌==◌, sum_by}
 use Rattle.refusal.specs.declared.kind.Kind.{Kind}
 use Rattle.refusal.specs.PerKinds.{at}
 use Rattle.refusal.specs.Refusals.{Code}
-use Rattle.protocol.specs.Seats.{Seat}
+use Rattle.refusal.specs.declared.seat.Seat.{Seat}
 use Rattle.engine.specs.declared.command.Receipt.{Receipt}
 
 -- how many correlations of a kind a receipt has
@@ -16,18 +16,17 @@ pub data Answer : Type 0 where
   receipt : Receipt → Answer
   opened : ℕ → Answer
 
+-- what a receipt counts for, and other answers for nothing
+abbrev pub receipt_count : (Receipt → ℕ) → Answer → ℕ
+receipt_count n (receipt q) = n q
+receipt_count n _ = 0
+
 -- what the receipts among a party's answers add up to: correlations of a kind, and messages
 abbrev pub spent : List Answer → Kind → ℕ
-spent [] k = 0
-spent (refused r ∷ log) k = spent log k
-spent (receipt q ∷ log) k = needs q k + spent log k
-spent (opened v ∷ log) k = spent log k
+spent log k = sum_by (receipt_count (λ q. needs q k)) log
 
 abbrev pub carried : List Answer → ℕ
-carried [] = 0
-carried (refused r ∷ log) = carried log
-carried (receipt q ∷ log) = q.messages + carried log
-carried (opened v ∷ log) = carried log
+carried log = sum_by (receipt_count (λ q. q.messages)) log
 
 -- Which registers are filled. A number register has its width, 0 where it is empty and else 2 to 32.
 pub record Shape : Type 0 where
@@ -62,18 +61,18 @@ registers a = record { shape = a.public.shape; shares = a.shares; bits = a.bits 
 
 -- x at the place i of a row, and the rest as it was
 abbrev pub put : {X : Type 0} → ℕ → X → (ℕ → X) → ℕ → X
-put i x row j = cond (j == i) x (row j)
+put i x row j = if j == i then x else row j
 
 -- a number register, or a bit register, is filled
 abbrev pub with_number : ℕ → ℕ → Shape → Shape
-with_number t w p = record { widths = put t w p.widths; filled = p.filled }
+with_number t w p = record p { widths = put t w p.widths }
 
 abbrev pub with_bit : ℕ → Shape → Shape
-with_bit t p = record { widths = p.widths; filled = put t true p.filled }
+with_bit t p = record p { filled = put t true p.filled }
 
 abbrev pub with_shape : (Shape → Shape) → Public → Public
-with_shape g p = record { shape = g p.shape; seats = p.seats; left = p.left; budget = p.budget; capacity = p.capacity; longest = p.longest }
+with_shape g p = record p { shape = g p.shape }
 
 -- what a receipt says is gone, at both parties and from the channel's budget
 abbrev pub lowered : Receipt → Public → Public
-lowered q p = record { shape = p.shape; seats = p.seats; left = λ g k. p.left g k - needs q k; budget = p.budget - q.messages; capacity = p.capacity; longest = p.longest }
+lowered q p = record p { left = λ g k. p.left g k - needs q k; budget = p.budget - q.messages }

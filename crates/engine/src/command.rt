@@ -1,8 +1,9 @@
 // The twelve commands, and what a party is answered for one that it carried out.
 use refusal::per_kind::PerKind;
 
-// N is what is handed in: to a party its own number, at a session both parties' numbers.
-#[derive(Clone, Copy)]
+// N is what is handed in: to a party its own number, at a session both parties' numbers. Registers and
+// seats are numbers, since the rules have one out of range refused.
+#[derive(Clone, Copy, Debug, PartialEq, Eq, Hash)]
 pub enum Command<N> {
     // Fills a number register with a share of each party.
     Lodge {
@@ -72,15 +73,15 @@ pub enum Command<N> {
     },
 }
 
-// What seat 0 and seat 1 hand in.
-#[derive(Clone, Copy)]
+// What seat 0 and seat 1 hand in. A struct of its own, since the theory names its two fields.
+#[derive(Clone, Copy, Debug, PartialEq, Eq, Hash)]
 pub struct Numbers {
     pub of0: u32,
     pub of1: u32,
 }
 
 // Correlations by kind, and messages, that a command used.
-#[derive(Clone, Copy)]
+#[derive(Clone, Copy, Debug, PartialEq, Eq, Hash)]
 pub struct Receipt {
     pub used: PerKind<u32>,
     pub messages: u32,

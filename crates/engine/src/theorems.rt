@@ -4,36 +4,29 @@ ghost use Rattle.engine.specs.Examples.{TwelveSplits, RefusalsInOrder, SessionPl
 
 // Each command, at either seat, computes what the ideal functionality says, hides all but what it opens, and costs its
 // price.
-pub fn commands_stand() -> u8
+pub fn commands_stand()
     ensures { CommandsStand }
-{
-    0
-}
+{}
 
 // The certificate of every list of commands, for either seat.
-pub fn engine_is_certified() -> u8
+#[tactic(auto, using(crate::proofs::Certifying::engine_certified))]
+pub fn engine_is_certified()
     ensures { EngineCertified }
-{
-    0
-}
+{}
 
 // The twelve worked splits, of the ideal functionality.
-pub fn twelve_splits() -> u8
+#[tactic(auto, unfolding(arithmetic::specs::Tests::test_width))]
+pub fn twelve_splits()
     ensures { TwelveSplits }
-{
-    0
-}
+{}
 
 // Where much is wrong, the first check in the order refuses.
-pub fn refusals_in_order() -> u8
+pub fn refusals_in_order()
     ensures { RefusalsInOrder }
-{
-    0
-}
+{}
 
 // A short session of the parties' own courses.
-pub fn session_is_played() -> u8
+#[tactic(auto, unfolding(arithmetic::specs::Tests::test_width, gadgets::specs::Comparison::compare))]
+pub fn session_is_played()
     ensures { SessionPlayed }
-{
-    0
-}
+{}

@@ -1,24 +1,22 @@
 -- The and of two shared bits by one lookup.
-use Rattle.std.proofs.Common.{◌≡◌, ℕ, zero, suc, ◌+◌, ◌*◌, ◌/◌, ◌%◌, ◌<◌, Bool, true, false, ◌&&◌, ltb, refl, ap, ◌∙◌, arith, lit<}
-use lib.Bits.{bit_xor}
-use Rattle.std.proofs.lemmas.Bool.{ltb-true}
-use Rattle.refusal.specs.declared.kind.Kind.TheVariants.{Bit, Ring0, Ring1}
+use Rattle.std.proofs.Common.{◌≡◌, ℕ, zero, suc, ◌*◌, ◌/◌, ◌%◌, ◌<◌, Bool, false, ◌&&◌, nat_lt, refl, ap, ◌∙◌, arith, bit_xor}
+use Rattle.std.proofs.lemmas.Bool.{cond_both, ltb-true}
+use Rattle.refusal.specs.declared.kind.Kind.TheVariants.{Bit}
 use Rattle.arithmetic.specs.Bits.{xor, bit}
 use Rattle.protocol.specs.Course.{AskIn, ends, looks}
 use Rattle.gadgets.specs.Shares.{SharedBit}
 use Rattle.gadgets.specs.And.{and_table, and_index, AndComputes, AndFollows, AndTallies}
-use Rattle.gadgets.proofs.Bits.{truths, from_truths, bit_of_xor, bit_rest, xor_below, rest_below, cond_below}
+use Rattle.gadgets.proofs.Bits.{truths, from_truths, xor_below, rest_below}
 use Rattle.gadgets.proofs.Pairs.{code, both, code_equal, from_lookup}
 
 times_below : (p q : ℕ) → p < 2 → q < 2 → p * q < 4
 times_below zero q hp hq = omega arith
 times_below (suc zero) q hp hq = omega arith
-times_below (suc (suc p)) q hp hq = absurd (omega arith)
+times_below _ q hp hq = absurd (omega arith)
 
 asks : (x y : ℕ) → AskIn Bit (record { table = and_table x y; index = and_index x y })
 asks x y = record {
-  table_in = λ k. cond_below (ltb k 4) (bit_xor (x % 2) (k / 2) * bit_xor (y % 2) (k % 2)) 4 (lit< tt)
-      (λ e. let l : k < 4 = ltb-true k 4 e in times_below (bit_xor (x % 2) (k / 2)) (bit_xor (y % 2) (k % 2)) (xor_below (x % 2) (k / 2) (rest_below x) (omega arith)) (xor_below (y % 2) (k % 2) (rest_below y) (rest_below k)));
+  table_in = λ k. cond_both (nat_lt k 4) _ _ (λ z. z < 4) (λ e. let l : k < 4 = ltb-true k 4 e in times_below _ _ (xor_below (x % 2) (k / 2) (rest_below x) (omega arith)) (xor_below (y % 2) (k % 2) (rest_below y) (rest_below k))) (λ _. omega arith);
   index_in = omega arith;
 }
 
@@ -27,16 +25,8 @@ entry_is : (x x' y y' : ℕ) (p q r s u v : Bool) → x ≡ bit p → x' ≡ bit
     → and_table x y (and_index x' y') ≡ code (both false (u && v))
 entry_is x x' y y' p q r s u v ep eq er es eu ev = rw (ep, eq, er, es, ← eu, ← ev) (at p q r s)
   where
-    index_bits : (q s : Bool) → (ltb (2 * bit q + bit s) 4 ≡ true) × ((2 * bit q + bit s) / 2 ≡ bit q) × ((2 * bit q + bit s) % 2 ≡ bit s)
-    index_bits q s = grind arith
-
-    product : (a b : Bool) → bit a * bit b ≡ code (both false (a && b))
-    product a b = grind arith
-
     at : (p q r s : Bool) → and_table (bit p) (bit r) (and_index (bit q) (bit s)) ≡ code (both false (xor p q && xor r s))
-    at p q r s =
-        let b = index_bits q s in
-        rw (bit_rest p, bit_rest q, bit_rest r, bit_rest s, b.0, b.1, b.2, bit_of_xor p q, bit_of_xor r s) (product (xor p q) (xor r s))
+    at p q r s = grind arith
 
 shared : (a b : ℕ) (v : Bool) → a < 4 → b < 4 → bit_xor b a ≡ code (both false v) → SharedBit (a % 2) (b % 2) v
 shared a b v ha hb e =
@@ -58,5 +48,4 @@ and_follows x y = looks (asks x y) (λ s. ends (rest_below s))
 
 pub and_tallies : AndTallies
 and_tallies Bit = refl
-and_tallies Ring0 = refl
-and_tallies Ring1 = refl
+and_tallies _ = refl

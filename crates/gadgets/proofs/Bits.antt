@@ -1,6 +1,6 @@
 -- Numbers below 2 as truth values, and shared bits by them.
-use Rattle.std.proofs.Common.{◌≡◌, ℕ, zero, suc, ◌%◌, ◌<◌, Bool, true, false, cond, sym, refl, ap, ◌∙◌, ap₂, arith}
-use lib.Bits.{bit_xor, xor_lt}
+use Rattle.std.proofs.Common.{◌≡◌, ℕ, zero, suc, ◌%◌, ◌<◌, Bool, true, false, refl, ap, ◌∙◌, arith, bit_xor}
+use Rattle.std.proofs.lemmas.Nat.{xor_lt}
 use Rattle.arithmetic.specs.Bits.{xor, bit}
 use Rattle.gadgets.specs.Shares.{SharedBit}
 
@@ -15,9 +15,6 @@ bit_below b = grind arith
 pub bit_of_xor : (a b : Bool) → bit_xor (bit a) (bit b) ≡ bit (xor a b)
 bit_of_xor a b = grind arith
 
-bit_only : (a b : Bool) → bit a ≡ bit b → a ≡ b
-bit_only a b e = grind arith
-
 pub xor_turn : (a b : Bool) → xor a b ≡ xor b a
 xor_turn a b = grind arith
 
@@ -26,11 +23,6 @@ xor_below a b ha hb = xor_lt 1 a b ha hb
 
 pub rest_below : (a : ℕ) → a % 2 < 2
 rest_below a = omega arith
-
--- an entry of a table that is 0 past its end
-pub cond_below : (b : Bool) (x n : ℕ) → 0 < n → (b ≡ true → x < n) → cond b x 0 < n
-cond_below true x n h k = k refl
-cond_below false x n h k = h
 
 -- the bits that share a bit, as truth values
 pub record Truths (a b : ℕ) (v : Bool) : Type 0 where
@@ -44,8 +36,7 @@ pub truths : {a b : ℕ} {v : Bool} → SharedBit a b v → Truths a b v
 truths {a} {b} {v} s =
     let x = bool_of a s.bit_0 in
     let y = bool_of b s.bit_1 in
-    let e : bit_xor (bit x.0) (bit y.0) ≡ bit v = sym (ap₂ bit_xor x.1 y.1) ∙ s.opens in
-    record { own_0 = x.0; own_1 = y.0; is_0 = x.1; is_1 = y.1; opens = bit_only (xor x.0 y.0) v (sym (bit_of_xor x.0 y.0) ∙ e) }
+    record { own_0 = x.0; own_1 = y.0; is_0 = x.1; is_1 = y.1; opens = grind (arith, s.opens) }
 
 pub from_truths : (x y v : Bool) → xor x y ≡ v → SharedBit (bit x) (bit y) v
 from_truths x y v e = record { bit_0 = bit_below x; bit_1 = bit_below y; opens = bit_of_xor x y ∙ ap bit e }

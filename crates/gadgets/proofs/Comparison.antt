@@ -1,9 +1,9 @@
 -- The comparison's two courses compute whether one number is below the other, and cost two lookups for each digit less one.
-use Rattle.std.proofs.Common.{◌≡◌, ℕ, zero, suc, ◌+◌, ◌-◌, ◌/◌, ◌%◌, ◌^◌, ◌<◌, ◌≤◌, ◌⊎◌, List, [], ◌∷◌, ◌++◌, length, replicate, sym, refl, ap, ◌∙◌, subst, ap₂, inl, inr, ⊎_elim, append_assoc, append-nil, pow-suc, arith, length-append}
+use Rattle.std.proofs.Common.{◌≡◌, ℕ, zero, suc, ◌+◌, ◌-◌, ◌/◌, ◌%◌, ◌^◌, ◌<◌, ◌≤◌, ◌⊎◌, List, [], ◌∷◌, ◌++◌, length, replicate, sym, refl, ap, ◌∙◌, subst, ap₂, inl, inr, append_assoc, append-nil, pow-suc, arith, length-append}
 use Rattle.refusal.specs.declared.kind.Kind.TheVariants.{Bit}
 use Rattle.arithmetic.specs.Comparison.{Pair, join, pair}
 use Rattle.arithmetic.proofs.Comparison.{whole, join_neighbours, split_pair, digits_suffice}
-use Rattle.protocol.specs.Seats.{seat_0}
+use Rattle.refusal.specs.declared.seat.Seat.TheVariants.{Zero}
 use Rattle.protocol.specs.Course.{AskIn, Computes, Follows, ends, looks}
 use Rattle.protocol.proofs.Binding.{follows_same}
 use Rattle.gadgets.specs.Shares.{SharedBit}
@@ -47,24 +47,18 @@ gives : {a b : ℕ} {p : Pair} → SharedPair a b p → Gives p (a / 2 % 2) (b /
 gives {p = p} s = let t = upper_shared s in rw (t.2, t.3) (from_truths t.0 t.1 p.less t.4)
 
 abbrev Right : ℕ → Pair → Type 0
-Right k w = (us vs : List ℕ) (zu : List Pair) (ms ns : List ℕ) (zm : List Pair) → Shared us vs zu → Shared ms ns zm → Settled k us ms → whole (zu ++ zm) ≡ w → Computes seat_0 (Gives w) (joins k us ms) (joins k vs ns)
+Right k w = (us vs : List ℕ) (zu : List Pair) (ms ns : List ℕ) (zm : List Pair) → Shared us vs zu → Shared ms ns zm → Settled k us ms → whole (zu ++ zm) ≡ w → Computes Zero (Gives w) (joins k us ms) (joins k vs ns)
 
 onward_right : (k : ℕ) (w : Pair) → Right k w → {us vs : List ℕ} {zu : List Pair} {ms ns : List ℕ} {zm : List Pair} → Shared us vs zu → Shared ms ns zm → k + 1 ≡ length us + length ms → whole (zu ++ zm) ≡ w
-    → Computes seat_0 (Gives w) (onward (joins k) us ms) (onward (joins k) vs ns)
+    → Computes Zero (Gives w) (onward (joins k) us ms) (onward (joins k) vs ns)
 onward_right k w go {us} {vs} {zu} su none c e = go [] [] [] us vs zu none su (begins k us (omega arith)) (ap whole (sym (append-nil zu)) ∙ e)
 onward_right k w go {us} {vs} {zu} su (more {a} {b} {p} s none) c e =
     go [] [] [] (us ++ (a ∷ [])) (vs ++ (b ∷ [])) (zu ++ (p ∷ [])) none (pushed s su) (begins k (us ++ (a ∷ [])) (omega (arith, length-append us (a ∷ [])))) e
 onward_right k w go su (more s (more t r)) c e = go _ _ _ _ _ _ su (more s (more t r)) (record { count = c; level = inr (omega arith) }) e
 
 joins_right : (k : ℕ) {us vs : List ℕ} {zu : List Pair} {ms ns : List ℕ} {zm : List Pair} (w : Pair) → Shared us vs zu → Shared ms ns zm → Settled k us ms → whole (zu ++ zm) ≡ w
-    → Computes seat_0 (Gives w) (joins k us ms) (joins k vs ns)
-joins_right zero w none none s e = absurd (omega (arith, s.count))
-joins_right zero w none (more {a} {b} {p} t none) s e = ends (subst (λ q. Gives q (a / 2 % 2) (b / 2 % 2)) e (gives t))
-joins_right zero w none (more t (more t' r)) s e = absurd (omega (arith, s.count))
-joins_right zero w (more t r) none s e = absurd (⊎_elim (λ z. omega arith) (λ z. omega arith) s.level)
-joins_right zero w (more t r) (more t' r') s e = absurd (omega (arith, s.count))
-joins_right (suc k) w su none s e = absurd (⊎_elim (λ z. omega (arith, s.count)) (λ z. omega arith) s.level)
-joins_right (suc k) w su (more t none) s e = absurd (⊎_elim (λ z. omega (arith, s.count)) (λ z. omega arith) s.level)
+    → Computes Zero (Gives w) (joins k us ms) (joins k vs ns)
+joins_right zero w none (more {a} {b} {p} t none) s e = ends (rw (← e) (gives t))
 joins_right (suc k) {us} {vs} {zu} w su (more {a = low} {b = low'} {p = p} t (more {a = high} {b = high'} {p = q} {ps = ps} t' r)) s e =
     looks (join_asks high low) (join_asks high' low')
     (λ a b sh.
@@ -72,15 +66,16 @@ joins_right (suc k) {us} {vs} {zu} w su (more {a = low} {b = low'} {p = p} t (mo
     (pushed (joined_shared a b t' t sh.near_in sh.far_in sh.joins) su) r
     (omega (arith, s.count, length-append us (joined_pair high a ∷ [])))
     (ap whole (append_assoc zu (join q p ∷ []) ps) ∙ join_neighbours zu p q ps ∙ e))
+joins_right _ w _ _ s e = absurd (omega (arith, s.count, s.level))
 
 gather_right : (n : ℕ) {xs ys : List ℕ} {ps : List Pair} (x y : ℕ) (w : Pair) → Shared xs ys ps → x < 16 ^ n → y < 16 ^ n → 0 < n + length xs → whole (ps ++ (pair x y ∷ [])) ≡ w
-    → Computes seat_0 (Gives w) (gather n x xs) (gather n y ys)
+    → Computes Zero (Gives w) (gather n x xs) (gather n y ys)
 gather_right zero {xs} {ys} {ps} x y w sh cx cy some e =
     let ex : x ≡ 0 = omega arith in
     let ey : y ≡ 0 = omega arith in
     let one : pair x y ≡ whole [] = ap₂ pair ex ey in
-    let base : Computes seat_0 (Gives w) (joins (length xs - 1) [] xs) (joins (length xs - 1) [] ys) = joins_right (length xs - 1) w none sh (begins (length xs - 1) xs (omega arith)) (sym (whole_none ps) ∙ ap (λ d. whole (ps ++ (d ∷ []))) (sym one) ∙ e) in
-    subst (λ l. Computes seat_0 (Gives w) (joins (length xs - 1) [] xs) (joins (l - 1) [] ys)) (same_length sh) base
+    let base : Computes Zero (Gives w) (joins (length xs - 1) [] xs) (joins (length xs - 1) [] ys) = joins_right (length xs - 1) w none sh (begins (length xs - 1) xs (omega arith)) (sym (whole_none ps) ∙ ap (λ d. whole (ps ++ (d ∷ []))) (sym one) ∙ e) in
+    subst (λ l. Computes Zero (Gives w) (joins (length xs - 1) [] xs) (joins (l - 1) [] ys)) (same_length sh) base
   where
     whole_none : (ps : List Pair) → whole (ps ++ (whole [] ∷ [])) ≡ whole ps
     whole_none [] = refl
@@ -113,26 +108,25 @@ onward_follows k go us (a ∷ (b ∷ ms)) c = go us (a ∷ (b ∷ ms)) (record {
 
 joins_follows : (k : ℕ) (us ms : List ℕ) → Settled k us ms → Follows (λ r. r < 2) (replicate k Bit) (joins k us ms)
 joins_follows zero us ms s = ends (omega arith)
-joins_follows (suc k) us [] s = absurd (⊎_elim (λ z. omega (arith, s.count)) (λ z. omega arith) s.level)
-joins_follows (suc k) us (a ∷ []) s = absurd (⊎_elim (λ z. omega (arith, s.count)) (λ z. omega arith) s.level)
 joins_follows (suc k) us (low ∷ (high ∷ ms)) s =
     looks (join_asks high low)
     (λ u. onward_follows k (joins_follows k) (us ++ (joined_pair high u ∷ [])) ms (omega (arith, s.count, length-append us (joined_pair high u ∷ []))))
+joins_follows (suc k) us _ s = absurd (omega (arith, s.count, s.level))
 
 gather_follows : (n x : ℕ) (ps : List ℕ) → Follows (λ r. r < 2) (replicate (n + (n + length ps - 1)) Bit) (gather n x ps)
 gather_follows zero x [] = ends (omega arith)
 gather_follows zero x (p ∷ ps) =
     let k = length (p ∷ ps) - 1 in
-    follows_same (λ r. r < 2) (ap (λ k. replicate k Bit) (omega arith)) (joins_follows k [] (p ∷ ps) (begins k (p ∷ ps) (omega arith)))
+    follows_same (ap (λ k. replicate k Bit) (omega arith)) (joins_follows k [] (p ∷ ps) (begins k (p ∷ ps) (omega arith)))
 gather_follows (suc n) x ps =
     let e : suc (n + (n + length ps)) ≡ suc n + (suc n + length ps - 1) = omega arith in
-    follows_same (λ r. r < 2) (ap (λ k. replicate k Bit) e)
+    follows_same (ap (λ k. replicate k Bit) e)
     (looks (digit_asks x)
-    (λ s. follows_same (λ r. r < 2) (ap (λ k. replicate k Bit) (omega (arith, length-append ps (s ∷ [])))) (gather_follows n (x / 16) (ps ++ (s ∷ [])))))
+    (λ s. follows_same (ap (λ k. replicate k Bit) (omega (arith, length-append ps (s ∷ [])))) (gather_follows n (x / 16) (ps ++ (s ∷ [])))))
 
 pub comparison_follows : ComparisonFollows
 unfolding compare
-comparison_follows v x = follows_same (λ r. r < 2) (ap (λ k. replicate k Bit) (omega arith)) (gather_follows ((v + 3) / 4) x [])
+comparison_follows v x = follows_same (ap (λ k. replicate k Bit) (omega arith)) (gather_follows ((v + 3) / 4) x [])
 
 pub comparison_tallies : ComparisonTallies
 comparison_tallies v = tallies_bits (comparison_price v)

@@ -1,17 +1,16 @@
 -- A shared bit becomes a shared number.
-use Rattle.std.proofs.Common.{◌≡◌, ℕ, ◌%◌, ◌^◌, Bool, ltb, ◌∙◌, arith}
-use lib.Bits.{bit_xor}
-use Rattle.std.proofs.lemmas.Bool.{ltb-true}
+use Rattle.std.proofs.Common.{◌≡◌, ℕ, ◌%◌, ◌^◌, ◌<◌, Bool, nat_lt, ◌∙◌, arith}
+use Rattle.std.proofs.lemmas.Bool.{cond_both, ltb-true}
 use Rattle.refusal.specs.declared.kind.Kind.TheVariants.{Ring0}
 use Rattle.arithmetic.specs.Bits.{xor, bit}
 use Rattle.protocol.specs.Course.{AskIn, ends, looks}
 use Rattle.gadgets.specs.Conversion.{conversion_table, ConversionComputes, ConversionFollows}
-use Rattle.gadgets.proofs.Bits.{truths, xor_below, rest_below, cond_below}
+use Rattle.gadgets.proofs.Bits.{truths, xor_below, rest_below}
 use Rattle.gadgets.proofs.Numbers.{from_ring}
 
 asks : (b : ℕ) → AskIn Ring0 (record { table = conversion_table b; index = b % 2 })
 asks b = record {
-  table_in = λ k. cond_below (ltb k 2) (bit_xor (b % 2) k) (2 ^ 32) (omega arith) (λ e. omega (arith, xor_below (b % 2) k (rest_below b) (ltb-true k 2 e)));
+  table_in = λ k. cond_both (nat_lt k 2) _ _ (λ z. z < 2 ^ 32) (λ e. omega (arith, xor_below (b % 2) k (rest_below b) (ltb-true k 2 e))) (λ _. omega arith);
   index_in = omega arith;
 }
 

@@ -1,8 +1,8 @@
 -- The division's two courses compute the floor of the signed value over d.
-use Rattle.std.proofs.Common.{◌≡◌, ℕ, ◌+◌, ◌-◌, ◌*◌, ◌/◌, ◌%◌, ◌^◌, ◌<◌, ◌≤◌, Bool, true, false, cond, eqb, [], ◌++◌, ℤ, pos, ◌+ℤ◌, ◌-ℤ◌, ◌*ℤ◌, neg_ℤ, sym, refl, ap, ◌∙◌, subst, mod-lt, one-mul, zero-mul, arith, pow_pos}
-use lib.Signed.{le_z}
+use Rattle.std.proofs.Common.{◌≡◌, ℕ, ◌+◌, ◌-◌, ◌*◌, ◌/◌, ◌%◌, ◌^◌, ◌<◌, ◌≤◌, Bool, true, false, if◌then◌else◌, ◌==◌, [], ℤ, pos, ◌+ℤ◌, ◌-ℤ◌, ◌*ℤ◌, neg_ℤ, sym, refl, ap, ◌∙◌, mod-lt, one-mul, zero-mul, arith, pow_pos, int_le}
 use Rattle.std.proofs.lemmas.Int.{ints}
 use Rattle.std.proofs.lemmas.Bool.{eqb-true}
+use Rattle.refusal.specs.declared.kind.Kind.TheVariants.{Bit}
 use Rattle.arithmetic.specs.Bits.{bit}
 use Rattle.arithmetic.specs.Sign.{shared_value, not_negative, signed, flip_of}
 use Rattle.arithmetic.specs.Division.{floor, remainder, excess, steps}
@@ -10,18 +10,17 @@ use Rattle.arithmetic.specs.Tests.{test_width}
 use Rattle.arithmetic.proofs.Integers.{floor_exact, mul_sum, mul_neg, floor_one}
 use Rattle.arithmetic.proofs.Division.{quotients_add}
 use Rattle.arithmetic.proofs.Tests.{wide, tests_read, test_width_least, test_width_below}
-use Rattle.protocol.specs.Seats.{seat_0}
+use Rattle.refusal.specs.declared.seat.Seat.{Seat}
+use Rattle.refusal.specs.declared.seat.Seat.TheVariants.{Zero, One}
 use Rattle.protocol.specs.Course.{done, Computes, Follows, ends}
 use Rattle.protocol.proofs.Binding.{then_computes, then_follows}
-use Rattle.gadgets.specs.Shares.{SharedBit, SharedNumber}
+use Rattle.gadgets.specs.Shares.{SharedNumber}
 use Rattle.gadgets.specs.Prices.{prices, Tallies}
-use Rattle.gadgets.specs.Comparison.{comparison_kinds, comparison_price}
-use Rattle.gadgets.specs.Flip.{flip_kinds}
-use Rattle.gadgets.specs.Conversion.{conversion_kinds}
-use Rattle.gadgets.specs.Sign.{sign, top_of}
-use Rattle.gadgets.specs.Division.{alone, excess_share, test, quotient_share, divided, divide, test_kinds, divided_kinds, DivisionComputes, DivisionFollows, DivisionTallies}
+use Rattle.gadgets.specs.Comparison.{comparison_price}
+use Rattle.gadgets.specs.Sign.{top_of}
+use Rattle.gadgets.specs.Division.{alone, excess_share, test, quotient_share, divided, test_kinds, divided_kinds, DivisionComputes, DivisionFollows, DivisionTallies}
 use Rattle.gadgets.proofs.Numbers.{sum_at, scaled, joined, bit_sum, copied}
-use Rattle.gadgets.proofs.Prices.{tallies_append, tallies_none, tallies_ring, tallies_bits}
+use Rattle.gadgets.proofs.Prices.{tally_append, tallies_none, tallies_bits}
 use Rattle.gadgets.proofs.Sign.{sign_computes, sign_follows}
 use Rattle.gadgets.proofs.Flip.{flip_computes, flip_follows}
 use Rattle.gadgets.proofs.Conversion.{conversion_computes, conversion_follows}
@@ -31,7 +30,7 @@ test_linear r u j a b f k e = omega (arith, ints)
 
 -- one test, from shares f and g of the flip
 test_computes : (w d a b f g j : ℕ) (k : ℤ) → 0 < d → d < 2 ^ 16 → j ≤ 2 → pos f +ℤ pos g ≡ flip_of w a b +ℤ k *ℤ pos (2 ^ 32)
-    → Computes seat_0 (λ m n. SharedNumber 32 m n (bit (le_z (pos (j * d)) (excess w d a b)))) (test 0 w d a f j) (test 1 w d b g j)
+    → Computes Zero (λ m n. SharedNumber 32 m n (bit (int_le (pos (j * d)) (excess w d a b)))) (test Zero w d a f j) (test One w d b g j)
 test_computes w d a b f g j k p l hj ef =
     let e = test_width d in
     let h = (test_width_least d p l).0 in
@@ -43,12 +42,12 @@ test_computes w d a b f g j k p l hj ef =
     = test_linear (remainder (signed w a) d) (remainder (signed w b) d) (j * d) (pos f *ℤ pos n0) (pos g *ℤ pos n0) (flip_of w a b *ℤ pos n0) (m *ℤ pos (2 ^ e))
     (scaled (pos f) (pos g) (flip_of w a b) k e n0 (test_width_below d l) ef) ∙ ap (λ z. (excess w d a b -ℤ pos (j * d)) +ℤ z) (sym (mul_neg m (2 ^ e))) in
     let sh = joined e x y (excess w d a b -ℤ pos (j * d)) (neg_ℤ m) s in
-    let t : not_negative e (shared_value e (remainder x (2 ^ e)) (remainder y (2 ^ e))) ≡ le_z (pos (j * d)) (excess w d a b)
+    let t : not_negative e (shared_value e (remainder x (2 ^ e)) (remainder y (2 ^ e))) ≡ int_le (pos (j * d)) (excess w d a b)
     = tests_read w d a b e j (remainder x (2 ^ e)) (remainder y (2 ^ e)) p h hj sh.adds in
     let sg = sign_computes e (remainder x (2 ^ e)) (remainder y (2 ^ e)) (shared_value e (remainder x (2 ^ e)) (remainder y (2 ^ e))) (wide e d p h) (record { below_0 = sh.below_0; below_1 = sh.below_1; adds = refl }) in
-    then_computes seat_0 (λ b0 b1. SharedBit b0 b1 (le_z (pos (j * d)) (excess w d a b))) (λ m n. SharedNumber 32 m n (bit (le_z (pos (j * d)) (excess w d a b))))
-    (subst (λ z. Computes seat_0 (λ b0 b1. SharedBit b0 b1 z) (sign 0 e (remainder x (2 ^ e))) (sign 1 e (remainder y (2 ^ e)))) t sg)
-    (λ b0 b1 sb. conversion_computes b0 b1 (le_z (pos (j * d)) (excess w d a b)) sb)
+    then_computes
+    (rw t at sg)
+    (λ b0 b1 sb. conversion_computes b0 b1 (int_le (pos (j * d)) (excess w d a b)) sb)
 
 add_two : (b0 k0 b1 k1 : ℤ) (x0 x1 y0 y1 : ℕ) → pos x0 +ℤ pos y0 ≡ b0 +ℤ k0 → pos x1 +ℤ pos y1 ≡ b1 +ℤ k1 → pos (x0 + x1) +ℤ pos (y0 + y1) ≡ (b0 +ℤ b1) +ℤ (k0 +ℤ k1)
 add_two b0 k0 b1 k1 x0 x1 y0 y1 e0 e1 = omega (arith, ints)
@@ -63,20 +62,20 @@ spread m a b c n = rw (mul_sum, mul_sum, mul_sum, mul_neg) refl
 -- the parties' shares of the quotient, from shares of the flip and of the three tests
 quotient_shared : (w d a b f g : ℕ) (k : ℤ) (x0 y0 x1 y1 x2 y2 : ℕ) → 0 < w → w ≤ 32 → 0 < d → a < 2 ^ w → b < 2 ^ w
     → pos f +ℤ pos g ≡ flip_of w a b +ℤ k *ℤ pos (2 ^ 32)
-    → SharedNumber 32 x0 y0 (bit (le_z (pos (0 * d)) (excess w d a b))) → SharedNumber 32 x1 y1 (bit (le_z (pos (1 * d)) (excess w d a b))) → SharedNumber 32 x2 y2 (bit (le_z (pos (2 * d)) (excess w d a b)))
-    → SharedNumber w (quotient_share 0 w d a f x0 x1 x2) (quotient_share 1 w d b g y0 y1 y2) (remainder (floor (signed w (shared_value w a b)) d) (2 ^ w))
+    → SharedNumber 32 x0 y0 (bit (int_le (pos (0 * d)) (excess w d a b))) → SharedNumber 32 x1 y1 (bit (int_le (pos (1 * d)) (excess w d a b))) → SharedNumber 32 x2 y2 (bit (int_le (pos (2 * d)) (excess w d a b)))
+    → SharedNumber w (quotient_share Zero w d a f x0 x1 x2) (quotient_share One w d b g y0 y1 y2) (remainder (floor (signed w (shared_value w a b)) d) (2 ^ w))
 quotient_shared w d a b f g k x0 y0 x1 y1 x2 y2 w0 lw pd ha hb ef s0 s1 s2 =
     let n = 2 ^ w in
     let n1 = 2 ^ w / d in
     let t = excess w d a b in
     let q = floor (signed w a) d in
     let p = floor (signed w b) d in
-    let t0 = pos (bit (le_z (pos 0) t)) in
-    let t1 = pos (bit (le_z (pos d) t)) in
-    let t2 = pos (bit (le_z (pos (2 * d)) t)) in
-    let b0 = bit_sum x0 y0 w (le_z (pos 0) t) lw (rw (zero-mul d) at s0) in
-    let b1 = bit_sum x1 y1 w (le_z (pos d) t) lw (rw (one-mul d) at s1) in
-    let b2 = bit_sum x2 y2 w (le_z (pos (2 * d)) t) lw s2 in
+    let t0 = pos (bit (int_le (pos 0) t)) in
+    let t1 = pos (bit (int_le (pos d) t)) in
+    let t2 = pos (bit (int_le (pos (2 * d)) t)) in
+    let b0 = bit_sum x0 y0 w (int_le (pos 0) t) lw (rw (zero-mul d) at s0) in
+    let b1 = bit_sum x1 y1 w (int_le (pos d) t) lw (rw (one-mul d) at s1) in
+    let b2 = bit_sum x2 y2 w (int_le (pos (2 * d)) t) lw s2 in
     let m = k *ℤ pos (2 ^ (32 - w) * n1) in
     let e2 : pos (x0 + x1) +ℤ pos (y0 + y1) ≡ (t0 +ℤ t1) +ℤ (b0.0 *ℤ pos n +ℤ b1.0 *ℤ pos n) = add_two t0 (b0.0 *ℤ pos n) t1 (b1.0 *ℤ pos n) x0 x1 y0 y1 b0.1 b1.1 in
     let e3 : pos (x0 + x1 + x2) +ℤ pos (y0 + y1 + y2) ≡ steps t d +ℤ ((b0.0 *ℤ pos n +ℤ b1.0 *ℤ pos n) +ℤ b2.0 *ℤ pos n)
@@ -89,56 +88,46 @@ quotient_shared w d a b f g k x0 y0 x1 y1 x2 y2 w0 lw pd ha hb ef s0 s1 s2 =
     rw (quotients_add w d a b w0 pd ha hb) (joined w (((q -ℤ pos f *ℤ pos n1) -ℤ pos 1) +ℤ pos (x0 + x1 + x2)) (((p -ℤ pos g *ℤ pos n1) -ℤ pos 0) +ℤ pos (y0 + y1 + y2)) z (neg_ℤ m +ℤ ((b0.0 +ℤ b1.0) +ℤ b2.0)) e)
 
 divided_computes : (w d a b : ℕ) → 1 < w → w ≤ 32 → 0 < d → d < 2 ^ 16 → a < 2 ^ w → b < 2 ^ w
-    → Computes seat_0 (λ m n. SharedNumber w m n (remainder (floor (signed w (shared_value w a b)) d) (2 ^ w))) (divided 0 w d a) (divided 1 w d b)
+    → Computes Zero (λ m n. SharedNumber w m n (remainder (floor (signed w (shared_value w a b)) d) (2 ^ w))) (divided Zero w d a) (divided One w d b)
 divided_computes w d a b hw lw pd hd ha hb =
     let w0 : 0 < w = omega arith in
-    let t = excess w d a b in
-    let Q = λ (m n : ℕ). SharedNumber w m n (remainder (floor (signed w (shared_value w a b)) d) (2 ^ w)) in
-    let T = λ (j m n : ℕ). SharedNumber 32 m n (bit (le_z (pos (j * d)) t)) in
-    then_computes seat_0 (λ g h. SharedBit g h (not_negative w (shared_value w a b))) Q (sign_computes w a b (shared_value w a b) hw (record { below_0 = ha; below_1 = hb; adds = refl }))
-    (λ g h sg. then_computes seat_0 (λ m n. SharedNumber 32 m n (remainder (flip_of w a b) (2 ^ 32))) Q (flip_computes w a b g h w0 ha hb sg)
+    then_computes (sign_computes w a b (shared_value w a b) hw (record { below_0 = ha; below_1 = hb; adds = refl }))
+    (λ g h sg. then_computes (flip_computes w a b g h w0 ha hb sg)
     (λ f f' sf.
     let k = sum_at f f' (flip_of w a b) (2 ^ 32) (pow_pos 32) sf.adds in
-    then_computes seat_0 (T 0) Q (test_computes w d a b f f' 0 k.0 pd hd (omega arith) k.1)
-    (λ x0 y0 s0. then_computes seat_0 (T 1) Q (test_computes w d a b f f' 1 k.0 pd hd (omega arith) k.1)
-    (λ x1 y1 s1. then_computes seat_0 (T 2) Q (test_computes w d a b f f' 2 k.0 pd hd (omega arith) k.1)
+    then_computes (test_computes w d a b f f' 0 k.0 pd hd (omega arith) k.1)
+    (λ x0 y0 s0. then_computes (test_computes w d a b f f' 1 k.0 pd hd (omega arith) k.1)
+    (λ x1 y1 s1. then_computes (test_computes w d a b f f' 2 k.0 pd hd (omega arith) k.1)
     (λ x2 y2 s2. ends (quotient_shared w d a b f f' k.0 x0 y0 x1 y1 x2 y2 w0 lw pd ha hb k.1 s0 s1 s2))))))
 
 pub division_computes : DivisionComputes
 division_computes w d a b v hw lw pd hd s =
-    subst (λ u. Computes seat_0 (λ m n. SharedNumber w m n (remainder (floor (signed w u) d) (2 ^ w))) (divide 0 w d a) (divide 1 w d b)) s.adds (go (eqb d 1) refl)
+    rw (← s.adds) (go (d == 1) refl)
   where
-    go : (c : Bool) → eqb d 1 ≡ c → Computes seat_0 (λ m n. SharedNumber w m n (remainder (floor (signed w (shared_value w a b)) d) (2 ^ w))) (cond c (done (a % 2 ^ w)) (divided 0 w d a)) (cond c (done (b % 2 ^ w)) (divided 1 w d b))
+    go : (c : Bool) → (d == 1) ≡ c → Computes Zero (λ m n. SharedNumber w m n (remainder (floor (signed w (shared_value w a b)) d) (2 ^ w))) (if c then done (a % 2 ^ w) else divided Zero w d a) (if c then done (b % 2 ^ w) else divided One w d b)
     go true e = ends (copied w a b (floor (signed w (shared_value w a b)) d) s.below_0 s.below_1 (ap (floor (signed w (shared_value w a b))) (eqb-true d 1 e) ∙ floor_one (signed w (shared_value w a b))))
     go false e = divided_computes w d a b hw lw pd hd s.below_0 s.below_1
 
-test_follows : (seat w d a f j : ℕ) → Follows (λ r. r < 2 ^ 32) (test_kinds d) (test seat w d a f j)
-test_follows seat w d a f j = then_follows (λ r. r < 2) (λ r. r < 2 ^ 32) (sign_follows seat (test_width d) (excess_share seat w d a f j)) (λ b h. conversion_follows b)
+test_follows : (f : Seat) (w d a x j : ℕ) → Follows (λ r. r < 2 ^ 32) (test_kinds d) (test f w d a x j)
+test_follows f w d a x j = then_follows (sign_follows f (test_width d) (excess_share f w d a x j)) (λ b h. conversion_follows b)
 
 pub division_follows : DivisionFollows
-division_follows seat w d a = go (eqb d 1)
+division_follows f w d a = go (d == 1)
   where
-    go : (c : Bool) → Follows (λ r. r < 2 ^ w) (cond c [] (divided_kinds w d)) (cond c (done (a % 2 ^ w)) (divided seat w d a))
+    go : (c : Bool) → Follows (λ r. r < 2 ^ w) (if c then [] else divided_kinds w d) (if c then done (a % 2 ^ w) else divided f w d a)
     go true = ends (mod-lt a (pow_pos w))
     go false =
-        then_follows (λ r. r < 2) (λ r. r < 2 ^ w) (sign_follows seat w a)
-        (λ g h. then_follows (λ r. r < 2 ^ 32) (λ r. r < 2 ^ w) (flip_follows (top_of w a) g)
-        (λ f h. then_follows (λ r. r < 2 ^ 32) (λ r. r < 2 ^ w) (test_follows seat w d a f 0)
-        (λ m0 h. then_follows (λ r. r < 2 ^ 32) (λ r. r < 2 ^ w) (test_follows seat w d a f 1)
-        (λ m1 h. then_follows (λ r. r < 2 ^ 32) (λ r. r < 2 ^ w) (test_follows seat w d a f 2)
-        (λ m2 h. ends (floor_exact (((floor (signed w a) d -ℤ pos f *ℤ pos (2 ^ w / d)) -ℤ alone seat 1) +ℤ pos (m0 + m1 + m2)) (2 ^ w) (pow_pos w)).1)))))
+        then_follows (sign_follows f w a)
+        (λ g h. then_follows (flip_follows (top_of w a) g)
+        (λ x h. then_follows (test_follows f w d a x 0)
+        (λ m0 h. then_follows (test_follows f w d a x 1)
+        (λ m1 h. then_follows (test_follows f w d a x 2)
+        (λ m2 h. ends (floor_exact (((floor (signed w a) d -ℤ pos x *ℤ pos (2 ^ w / d)) -ℤ alone f 1) +ℤ pos (m0 + m1 + m2)) (2 ^ w) (pow_pos w)).1)))))
 
 pub division_tallies : DivisionTallies
-division_tallies w d = go (eqb d 1)
+division_tallies w d = go (d == 1)
   where
-    go : (c : Bool) → Tallies (cond c [] (divided_kinds w d)) (cond c (prices 0 0 0) (prices (comparison_price (w - 1) + 3 * comparison_price (test_width d - 1)) 4 0))
-    go true = tallies_none
-    go false =
-        let c = comparison_price (test_width d - 1) in
-        let t = tallies_append (comparison_kinds (test_width d - 1)) conversion_kinds (tallies_bits c) tallies_ring in
-        let t₁ = tallies_append (test_kinds d) [] t tallies_none in
-        let t₂ = tallies_append (test_kinds d) (test_kinds d ++ []) t t₁ in
-        let t₃ = tallies_append (test_kinds d) (test_kinds d ++ (test_kinds d ++ [])) t t₂ in
-        let f = tallies_append flip_kinds (test_kinds d ++ (test_kinds d ++ (test_kinds d ++ []))) tallies_ring t₃ in
-        subst (λ n. Tallies (divided_kinds w d) (prices n 4 0)) (omega arith)
-        (tallies_append (comparison_kinds (w - 1)) (flip_kinds ++ (test_kinds d ++ (test_kinds d ++ (test_kinds d ++ [])))) (tallies_bits (comparison_price (w - 1))) f)
+    go : (c : Bool) → Tallies (if c then [] else divided_kinds w d) (if c then prices 0 0 0 else prices (comparison_price (w - 1) + 3 * comparison_price (test_width d - 1)) 4 0)
+    go true k = tallies_none k
+    go false Bit = simp (tally_append, tallies_bits) (omega arith)
+    go false _ = simp (tally_append, tallies_bits) (omega arith)

@@ -1,6 +1,6 @@
 -- The flip, from the top bits and the shared sign.
-use Rattle.std.proofs.Common.{◌≡◌, ℕ, ◌+◌, ◌/◌, ◌%◌, ◌^◌, ◌<◌, Bool, ltb, ◌∙◌, arith}
-use lib.Bits.{bit_xor}
+use Rattle.std.proofs.Common.{◌≡◌, ℕ, ◌+◌, ◌/◌, ◌%◌, ◌^◌, ◌<◌, Bool, nat_lt, ◌∙◌, arith, bit_xor}
+use Rattle.std.proofs.lemmas.Bool.{cond_both}
 use Rattle.refusal.specs.declared.kind.Kind.TheVariants.{Ring0}
 use Rattle.arithmetic.specs.Bits.{xor, bit}
 use Rattle.arithmetic.specs.Sign.{top, shared_value, not_negative, flip_of, flip as flip_value}
@@ -8,7 +8,7 @@ use Rattle.arithmetic.specs.Division.{remainder}
 use Rattle.protocol.specs.Course.{AskIn, ends, looks}
 use Rattle.gadgets.specs.Sign.{top_of}
 use Rattle.gadgets.specs.Flip.{flip_entry, flip_table, flip_index, FlipComputes, FlipFollows}
-use Rattle.gadgets.proofs.Bits.{truths, cond_below}
+use Rattle.gadgets.proofs.Bits.{truths}
 use Rattle.gadgets.proofs.Numbers.{from_ring}
 use Rattle.gadgets.proofs.Sign.{top_is}
 
@@ -17,7 +17,7 @@ entry_below n g = grind arith
 
 asks : (t g : ℕ) → AskIn Ring0 (record { table = flip_table t g; index = flip_index t g })
 asks t g = record {
-  table_in = λ k. cond_below (ltb k 4) (flip_entry (t % 2 + k / 2) (bit_xor (g % 2) (k % 2))) (2 ^ 32) (omega arith) (λ e. entry_below (t % 2 + k / 2) (bit_xor (g % 2) (k % 2)));
+  table_in = λ k. cond_both (nat_lt k 4) _ _ (λ z. z < 2 ^ 32) (λ e. entry_below (t % 2 + k / 2) (bit_xor (g % 2) (k % 2))) (λ _. omega arith);
   index_in = omega arith;
 }
 

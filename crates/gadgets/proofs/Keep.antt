@@ -1,18 +1,18 @@
 -- A shared number is kept or not, by two lookups.
-use Rattle.std.proofs.Common.{◌≡◌, ℕ, ◌+◌, ◌*◌, ◌%◌, ◌^◌, ◌<◌, ◌≤◌, Bool, true, false, cond, ltb, sym, refl, ap, ◌∙◌, ap₂, mod-lt, arith, pow_pos}
-use native.Mathlib.Nat.{add-mod, zero-mod}
-use lib.Bits.{bit_xor}
+use Rattle.std.proofs.Common.{◌≡◌, ℕ, ◌+◌, ◌*◌, ◌%◌, ◌^◌, ◌<◌, ◌≤◌, Bool, true, false, if◌then◌else◌, nat_lt, sym, refl, ap, ◌∙◌, ap₂, mod-lt, arith, pow_pos}
+use Rattle.std.proofs.lemmas.Bool.{cond_both}
+use Rattle.std.proofs.Math.Nat.{add-mod, zero-mod}
 use Rattle.refusal.specs.declared.kind.Kind.TheVariants.{Bit, Ring0, Ring1}
 use Rattle.arithmetic.specs.Bits.{xor, bit}
 use Rattle.arithmetic.specs.Sign.{shared_value}
 use Rattle.protocol.specs.Course.{AskIn, ends, looks}
 use Rattle.gadgets.specs.Shares.{SharedNumber}
 use Rattle.gadgets.specs.Keep.{keep_table, KeepComputes, KeepFollows, KeepTallies}
-use Rattle.gadgets.proofs.Bits.{truths, bit_of_xor, bit_rest, xor_turn, cond_below}
+use Rattle.gadgets.proofs.Bits.{truths, xor_turn}
 use Rattle.gadgets.proofs.Numbers.{narrowed}
 
 table_below : (a b k : ℕ) → keep_table a b k < 2 ^ 32
-table_below a b k = cond_below (ltb k 2) ((bit_xor (b % 2) k * a) % 2 ^ 32) (2 ^ 32) (omega arith) (λ e. mod-lt (bit_xor (b % 2) k * a) (pow_pos 32))
+table_below a b k = cond_both (nat_lt k 2) _ _ (λ z. z < 2 ^ 32) (λ e. mod-lt _ (pow_pos 32)) (λ _. omega arith)
 
 asks_0 : (a b : ℕ) → AskIn Ring0 (record { table = keep_table a b; index = b % 2 })
 asks_0 a b = record { table_in = table_below a b; index_in = omega arith }
@@ -23,14 +23,11 @@ asks_1 a b = record { table_in = table_below a b; index_in = omega arith }
 entry_is : (a b k : ℕ) (p q v : Bool) → b ≡ bit p → k ≡ bit q → xor p q ≡ v → keep_table a b (k % 2) ≡ (bit v * a) % 2 ^ 32
 entry_is a b k p q v ep eq ev = rw (ep, eq, ← ev) (at p q)
   where
-    within : (q : Bool) → ltb (bit q) 2 ≡ true
-    within q = grind arith
-
     at : (p q : Bool) → keep_table a (bit p) (bit q % 2) ≡ (bit (xor p q) * a) % 2 ^ 32
-    at p q = rw (bit_rest p, bit_rest q, within q, bit_of_xor p q) refl
+    at p q = grind arith
 
 kept : (w a a' x x' y y' : ℕ) (v : Bool) → w ≤ 32 → (x' + x) % 2 ^ 32 ≡ (bit v * a) % 2 ^ 32 → (y + y') % 2 ^ 32 ≡ (bit v * a') % 2 ^ 32
-    → SharedNumber w ((x + y) % 2 ^ w) ((x' + y') % 2 ^ w) (cond v (shared_value w a a') 0)
+    → SharedNumber w ((x + y) % 2 ^ w) ((x' + y') % 2 ^ w) (if v then shared_value w a a' else 0)
 kept w a a' x x' y y' v h ex ey =
     let p : 0 < 2 ^ w = pow_pos w in
     let r : (x + y) + (x' + y') ≡ (x' + x) + (y + y') = omega arith in
@@ -42,7 +39,7 @@ kept w a a' x x' y y' v h ex ey =
           ∙ sym (add-mod (bit v * a) (bit v * a') (2 ^ w)) ∙ at v;
     }
   where
-    at : (v : Bool) → (bit v * a + bit v * a') % 2 ^ w ≡ cond v (shared_value w a a') 0
+    at : (v : Bool) → (bit v * a + bit v * a') % 2 ^ w ≡ (if v then shared_value w a a' else 0)
     at true = ap (λ n. n % 2 ^ w) (omega arith)
     at false = ap (λ n. n % 2 ^ w) zeros ∙ zero-mod (2 ^ w)
       where
@@ -63,5 +60,4 @@ keep_follows w a b = looks (asks_0 a b) (λ u. looks (asks_1 a b) (λ v. ends (m
 
 pub keep_tallies : KeepTallies
 keep_tallies Bit = refl
-keep_tallies Ring0 = refl
-keep_tallies Ring1 = refl
+keep_tallies _ = refl

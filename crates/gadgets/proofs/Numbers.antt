@@ -1,6 +1,6 @@
 -- Shared numbers, modulo 2^32 and modulo smaller powers of two.
 use Rattle.std.proofs.Common.{◌≡◌, ℕ, ◌+◌, ◌-◌, ◌*◌, ◌/◌, ◌%◌, ◌^◌, ◌<◌, ◌≤◌, Bool, true, false, ℤ, pos, ◌+ℤ◌, ◌-ℤ◌, ◌*ℤ◌, neg_ℤ, sym, refl, ap, ◌∙◌, ap₂, mod-lt, mod-eq_of_lt, mul_assoc, mul_comm, div-add-mod', arith, pow_pos, pow-add}
-use native.Mathlib.Nat.{mod-mod_of_dvd, dvd-mul_right}
+use Rattle.std.proofs.Math.Nat.{mod-mod_of_dvd, dvd-mul_right}
 use Rattle.std.proofs.lemmas.Int.{ints}
 use Rattle.arithmetic.specs.Bits.{bit}
 use Rattle.arithmetic.specs.Sign.{shared_value, signed}

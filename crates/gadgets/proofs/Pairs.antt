@@ -1,11 +1,11 @@
 -- Pairs as numbers below 4, shares of a pair, and the join of two shared pairs by one lookup.
-use Rattle.std.proofs.Common.{◌≡◌, ℕ, zero, suc, ◌+◌, ◌*◌, ◌/◌, ◌%◌, ◌<◌, Bool, true, false, cond, ◌&&◌, eqb, ltb, sym, refl, ap, ◌∙◌, subst, ap₂, arith, lit<}
-use lib.Bits.{bit_xor}
+use Rattle.std.proofs.Common.{◌≡◌, ℕ, zero, suc, ◌+◌, ◌*◌, ◌/◌, ◌%◌, ◌<◌, Bool, true, false, if◌then◌else◌, ◌&&◌, ◌==◌, nat_lt, sym, refl, ap, ◌∙◌, ap₂, arith, bit_xor}
+use Rattle.std.proofs.lemmas.Bool.{cond_both}
 use Rattle.std.proofs.lemmas.Bool.Decides.{nat_tests}
 use Rattle.arithmetic.specs.Bits.{xor, bit}
 use Rattle.arithmetic.specs.Comparison.{Pair, join, pair}
 use Rattle.gadgets.specs.Comparison.{digit_table, join_table, join_index, joined_pair}
-use Rattle.gadgets.proofs.Bits.{bit_of_xor, xor_turn, xor_below, cond_below}
+use Rattle.gadgets.proofs.Bits.{bit_of_xor, xor_below}
 
 abbrev pub code : Pair → ℕ
 code p = 2 * bit p.less + bit p.equal
@@ -34,10 +34,7 @@ code_only : (p q : Pair) → code p ≡ code q → p ≡ q
 code_only p q e = grind arith
 
 code_xor : (p q : Pair) → bit_xor (code p) (code q) ≡ code (opened p q)
-code_xor p q = four p.less p.equal q.less q.equal
-  where
-    four : (l s m t : Bool) → bit_xor (2 * bit l + bit s) (2 * bit m + bit t) ≡ 2 * bit (xor l m) + bit (xor s t)
-    four l s m t = grind arith
+code_xor p q = grind arith
 
 -- a of seat 0 and b of seat 1 share the pair p
 pub record SharedPair (a b : ℕ) (p : Pair) : Type 0 where
@@ -56,7 +53,7 @@ from_lookup a b p ha hb e =
     record { own_0 = x.0; own_1 = y.0; is_0 = x.1; is_1 = y.1; opens = turned x.0 y.0 ∙ code_only (opened y.0 x.0) p f }
   where
     turned : (p q : Pair) → opened p q ≡ opened q p
-    turned p q = ap₂ both (xor_turn p.less q.less) (xor_turn p.equal q.equal)
+    turned p q = grind arith
 
 pub digit_below : (x k : ℕ) → digit_table x k < 4
 digit_below x k = grind arith
@@ -66,8 +63,7 @@ digit_code x y = grind (arith, nat_tests)
 
 pub join_below : (high low k : ℕ) → join_table high low k < 4
 join_below high low k =
-    cond_below (ltb k 8 && eqb (bit_xor (high % 2) (k / 4)) 1) (2 * bit_xor (low / 2 % 2) (k / 2 % 2) + bit_xor (low % 2) (k % 2)) 4 (lit< tt)
-    (λ e. omega (arith, xor_below (low / 2 % 2) (k / 2 % 2) (omega arith) (omega arith), xor_below (low % 2) (k % 2) (omega arith) (omega arith)))
+    cond_both (nat_lt k 8 && bit_xor (high % 2) (k / 4) == 1) _ _ (λ z. z < 4) (λ e. omega (arith, xor_below (low / 2 % 2) (k / 2 % 2) (omega arith) (omega arith), xor_below (low % 2) (k % 2) (omega arith) (omega arith))) (λ _. omega arith)
 
 pub index_below : (high low : ℕ) → join_index high low < 16
 index_below high low = omega arith
@@ -80,32 +76,24 @@ join_entry : (x y u v : Pair) → join_table (code x) (code u) (join_index (code
 join_entry x y u v =
     rw (code_equal x, code_equal y, code_less u, code_less v, code_equal u, code_equal v) (at x.equal y.equal u.less v.less u.equal v.equal)
   where
-    index_bits : (s l t : Bool) → (ltb (4 * bit s + 2 * bit l + bit t) 8 ≡ true) × ((4 * bit s + 2 * bit l + bit t) / 4 ≡ bit s) × ((4 * bit s + 2 * bit l + bit t) / 2 % 2 ≡ bit l) × ((4 * bit s + 2 * bit l + bit t) % 2 ≡ bit t)
+    index_bits : (s l t : Bool) → (nat_lt (4 * bit s + 2 * bit l + bit t) 8 ≡ true) × ((4 * bit s + 2 * bit l + bit t) / 4 ≡ bit s) × ((4 * bit s + 2 * bit l + bit t) / 2 % 2 ≡ bit l) × ((4 * bit s + 2 * bit l + bit t) % 2 ≡ bit t)
     index_bits s l t = grind arith
 
-    three : (a b c : Bool) → cond (true && eqb (bit a) 1) (2 * bit b + bit c) 0 ≡ code (both (a && b) (a && c))
-    three true b c = refl
-    three false b c = refl
+    three : (a b c : Bool) → (if true && bit a == 1 then 2 * bit b + bit c else 0) ≡ code (both (a && b) (a && c))
+    three a b c = grind arith
 
-    at : (h i l j m k : Bool) → cond (ltb (4 * bit i + 2 * bit j + bit k) 8 && eqb (bit_xor (bit h) ((4 * bit i + 2 * bit j + bit k) / 4)) 1) (2 * bit_xor (bit l) ((4 * bit i + 2 * bit j + bit k) / 2 % 2) + bit_xor (bit m) ((4 * bit i + 2 * bit j + bit k) % 2)) 0
+    at : (h i l j m k : Bool) → (if nat_lt (4 * bit i + 2 * bit j + bit k) 8 && bit_xor (bit h) ((4 * bit i + 2 * bit j + bit k) / 4) == 1 then 2 * bit_xor (bit l) ((4 * bit i + 2 * bit j + bit k) / 2 % 2) + bit_xor (bit m) ((4 * bit i + 2 * bit j + bit k) % 2) else 0)
         ≡ code (both (xor h i && xor l j) (xor h i && xor m k))
     at h i l j m k =
         let b = index_bits i j k in
         rw (b.0, b.1, b.2, b.3, bit_of_xor h i, bit_of_xor l j, bit_of_xor m k) (three (xor h i) (xor l j) (xor m k))
 
 joined_code : (z x : Pair) → joined_pair (code x) (code z) ≡ code (both (xor z.less x.less) z.equal)
-joined_code z x = rw (code_less x) (up z.less z.equal x.less)
-  where
-    up : (l s m : Bool) → bit_xor (2 * bit l + bit s) (2 * bit m) ≡ 2 * bit (xor l m) + bit s
-    up l s m = grind arith
+joined_code z x = grind arith
 
 joined_opens : (x y u v z t : Pair) → opened z t ≡ products (opened x y) (opened u v)
     → opened (both (xor z.less x.less) z.equal) (both (xor t.less y.less) t.equal) ≡ join (opened x y) (opened u v)
-joined_opens x y u v z t e =
-    ap₂ both (mix z.less x.less t.less y.less ∙ ap (λ q. xor (xor x.less y.less) q.less) e) (ap (λ q. q.equal) e)
-  where
-    mix : (a b c d : Bool) → xor (xor a b) (xor c d) ≡ xor (xor b d) (xor a c)
-    mix a b c d = grind arith
+joined_opens x y u v z t e = grind arith
 
 joined_from : {h h' a b : ℕ} (x y u v : Pair) → h ≡ code x → h' ≡ code y → SharedPair a b (products (opened x y) (opened u v))
     → SharedPair (joined_pair h a) (joined_pair h' b) (join (opened x y) (opened u v))
@@ -123,7 +111,7 @@ pub joined_shared : {h h' l l' : ℕ} {p q : Pair} (a b : ℕ) → SharedPair h 
 joined_shared {h} {h'} {l} {l'} a b f g ha hb e =
     let entry : join_table h l (join_index h' l') ≡ code (products (opened f.own_0 f.own_1) (opened g.own_0 g.own_1))
     = rw (f.is_0, f.is_1, g.is_0, g.is_1) (join_entry f.own_0 f.own_1 g.own_0 g.own_1) in
-    subst (SharedPair (joined_pair h a) (joined_pair h' b)) (ap₂ join f.opens g.opens)
+    rw (← f.opens, ← g.opens)
     (joined_from f.own_0 f.own_1 g.own_0 g.own_1 f.is_0 f.is_1
     (from_lookup a b (products (opened f.own_0 f.own_1) (opened g.own_0 g.own_1)) ha hb (e ∙ entry)))
 

@@ -1,8 +1,8 @@
 -- Comparison of seat 0's number with seat 1's, both of v bits: the digits first, and then the pairs, level by level.
-use Rattle.std.specs.Prelude.{ℕ, zero, suc, ◌+◌, ◌-◌, ◌*◌, ◌/◌, ◌%◌, ◌^◌, ◌<◌, cond, ◌&&◌, List, [], ◌∷◌, ◌++◌, length, replicate, ◌==◌, bit_xor, nat_lt, slice_index}
+use Rattle.std.specs.Prelude.{ℕ, zero, suc, ◌+◌, ◌-◌, ◌*◌, ◌/◌, ◌%◌, ◌^◌, ◌<◌, if◌then◌else◌, ◌&&◌, List, [], ◌∷◌, ◌++◌, length, replicate, ◌==◌, bit_xor, nat_lt, slice_index}
 use Rattle.refusal.specs.declared.kind.Kind.{Kind}
 use Rattle.refusal.specs.declared.kind.Kind.TheVariants.{Bit}
-use Rattle.protocol.specs.Seats.{seat_0}
+use Rattle.refusal.specs.declared.seat.Seat.TheVariants.{Zero}
 use Rattle.protocol.specs.Course.{Course, done, lookup, Computes, Follows}
 use Rattle.gadgets.specs.Shares.{SharedBit}
 use Rattle.gadgets.specs.Prices.{prices, Tallies}
@@ -11,12 +11,12 @@ use Rattle.gadgets.specs.Prices.{prices, Tallies}
 
 -- a digit against each other digit
 abbrev pub digit_table : ℕ → ℕ → ℕ
-digit_table x k = cond (nat_lt x k) 2 (cond (x == k) 1 0)
+digit_table x k = if nat_lt x k then 2 else if x == k then 1 else 0
 
 -- seat 0's shares of two neighbours against each index of seat 1: the products of the high `equal` with both bits of the low
 abbrev pub join_table : ℕ → ℕ → ℕ → ℕ
 join_table high low k =
-    cond (nat_lt k 8 && bit_xor (high % 2) (k / 4) == 1) (2 * bit_xor (low / 2 % 2) (k / 2 % 2) + bit_xor (low % 2) (k % 2)) 0
+    if nat_lt k 8 && bit_xor (high % 2) (k / 4) == 1 then 2 * bit_xor (low / 2 % 2) (k / 2 % 2) + bit_xor (low % 2) (k % 2) else 0
 
 abbrev pub join_index : ℕ → ℕ → ℕ
 join_index high low = 4 * (high % 2) + 2 * (low / 2 % 2) + low % 2
@@ -56,7 +56,7 @@ comparison_kinds v = replicate (comparison_price v) Bit
 
 -- The parties come to share whether seat 0's number is below seat 1's.
 abbrev pub ComparisonComputes : Type 0
-ComparisonComputes = (v x y : ℕ) → 0 < v → x < 2 ^ v → y < 2 ^ v → Computes seat_0 (λ a b. SharedBit a b (nat_lt x y)) (compare v x) (compare v y)
+ComparisonComputes = (v x y : ℕ) → 0 < v → x < 2 ^ v → y < 2 ^ v → Computes Zero (λ a b. SharedBit a b (nat_lt x y)) (compare v x) (compare v y)
 
 abbrev pub ComparisonFollows : Type 0
 ComparisonFollows = (v x : ℕ) → Follows (λ r. r < 2) (comparison_kinds v) (compare v x)

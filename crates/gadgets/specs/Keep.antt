@@ -1,15 +1,15 @@
 -- A shared number where a shared bit is 1, and else 0.
-use Rattle.std.specs.Prelude.{ℕ, ◌+◌, ◌*◌, ◌%◌, ◌^◌, ◌<◌, ◌≤◌, Bool, cond, List, [], ◌∷◌, bit_xor, nat_lt}
+use Rattle.std.specs.Prelude.{ℕ, ◌+◌, ◌*◌, ◌%◌, ◌^◌, ◌<◌, ◌≤◌, Bool, if◌then◌else◌, List, [], ◌∷◌, bit_xor, nat_lt}
 use Rattle.refusal.specs.declared.kind.Kind.{Kind}
 use Rattle.refusal.specs.declared.kind.Kind.TheVariants.{Ring0, Ring1}
-use Rattle.protocol.specs.Seats.{seat_0}
+use Rattle.refusal.specs.declared.seat.Seat.TheVariants.{Zero}
 use Rattle.protocol.specs.Course.{Course, done, lookup, Computes, Follows}
 use Rattle.gadgets.specs.Shares.{SharedBit, SharedNumber}
 use Rattle.gadgets.specs.Prices.{prices, Tallies}
 
 -- this party's share a of the number, where its share b of the bit and the other's come to 1
 abbrev pub keep_table : ℕ → ℕ → ℕ → ℕ
-keep_table a b k = cond (nat_lt k 2) ((bit_xor (b % 2) k * a) % 2 ^ 32) 0
+keep_table a b k = if nat_lt k 2 then (bit_xor (b % 2) k * a) % 2 ^ 32 else 0
 
 -- seat 0 sends first, and then seat 1
 abbrev pub keep : ℕ → ℕ → ℕ → Course ℕ
@@ -22,7 +22,7 @@ keep_kinds = Ring0 ∷ (Ring1 ∷ [])
 abbrev pub KeepComputes : Type 0
 KeepComputes =
     (w a a' v b b' : ℕ) (u : Bool) → w ≤ 32 → SharedNumber w a a' v → SharedBit b b' u
-    → Computes seat_0 (λ m n. SharedNumber w m n (cond u v 0)) (keep w a b) (keep w a' b')
+    → Computes Zero (λ m n. SharedNumber w m n (if u then v else 0)) (keep w a b) (keep w a' b')
 
 abbrev pub KeepFollows : Type 0
 KeepFollows = (w a b : ℕ) → Follows (λ r. r < 2 ^ w) keep_kinds (keep w a b)

@@ -4,39 +4,9 @@ use dealer::dealer::deals::deal;
 use lookup::group::{Ring, Xor};
 use lookup::half::{ReceiverHalf, SenderHalf};
 use lookup::steps::{answer, receiver_share, request, sender_share};
-use refusal::per_kind::PerKind;
-use refusal::refusal::Refusal;
 use sources::quota::Quota;
 use sources::source::Source;
-
-fn counts(bit: u32, ring0: u32, ring1: u32) -> PerKind<u32> {
-    PerKind { bit, ring0, ring1 }
-}
-
-// A refusal's number and what it carries; a call that went ahead has number 0.
-fn told<T: Drop>(r: Result<T, Refusal>) -> [u32; 4] {
-    match r {
-        Ok(_) => [0, 0, 0, 0],
-        Err(e) => {
-            let values = e.values();
-            [
-                u32::from(e.code()),
-                values.words[0],
-                values.words[1],
-                values.words[2],
-            ]
-        }
-    }
-}
-
-// Draws a half in front of 20 words that hold 9, and 99 in the first where it is refused.
-fn drawn<S: Source>(source: &mut S, kind: u8) -> [u32; 20] {
-    let mut words = [9u32; 20];
-    if source.draw(kind, &mut words).is_err() {
-        words[0] = 99;
-    }
-    words
-}
+use test_tools::{counts, drawn, told};
 
 // The halves that dealers with start 7 deal first, as the rules list them.
 #[test]

@@ -1,5 +1,5 @@
 -- One lookup: a sender with a table, a receiver with an index, and a half of a correlation for each.
-use Rattle.std.specs.Prelude.{◌≡◌, ℕ, ◌-◌, ◌<◌, cond, List, map, length, nat_le, slice_index}
+use Rattle.std.specs.Prelude.{◌≡◌, ℕ, ◌-◌, ◌<◌, List, map, length, if◌then◌else◌, nat_le, slice_index}
 use Rattle.std.specs.List.{range_with_len}
 use Rattle.lookup.specs.Groups.{Operation}
 
@@ -13,7 +13,7 @@ pub record Receiver : Type 0 where
 
 -- (a - b) mod n, for places a and b below n
 abbrev pub minus : ℕ → ℕ → ℕ → ℕ
-minus n a b = cond (nat_le b a) (a - b) (n - (b - a))
+minus n a b = if nat_le b a then a - b else n - (b - a)
 
 -- a table by its entries; past the end they are 0
 abbrev pub entry_of : List ℕ → ℕ → ℕ

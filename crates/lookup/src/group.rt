@@ -18,7 +18,8 @@ pub trait Group {
 }
 
 // Numbers of two bits, joined by exclusive or.
-pub struct Xor {}
+#[derive(Clone, Copy, Debug, PartialEq, Eq, Hash)]
+pub struct Xor;
 
 impl Group for Xor {
     ghost operation = { xor };
@@ -35,7 +36,8 @@ impl Group for Xor {
 }
 
 // Numbers of 32 bits, joined by addition modulo 2^32.
-pub struct Ring {}
+#[derive(Clone, Copy, Debug, PartialEq, Eq, Hash)]
+pub struct Ring;
 
 impl Group for Ring {
     ghost operation = { add };

@@ -39,8 +39,8 @@ pub fn word<G: Group>(table: &[u32], half: SenderHalf<'_>, request: u32, k: usiz
 pub fn answer<G: Group>(table: &[u32], half: SenderHalf<'_>, request: u32, words: &mut [u32])
     ensures { words.new ≡ map (word_of G.operation (length half.entry.masks.now) (entry_of table.now) (sender_of half.entry) request) (range_with_len 0 (length words.old)) }
 {
-    for k in 0..words.len() {
-        words[k] = word::<G>(table, half, request, k);
+    for (k, place) in words.iter_mut().enumerate() {
+        *place = word::<G>(table, half, request, k);
     }
 }
 

@@ -2,8 +2,8 @@
 use Rattle.std.proofs.Common.{ℕ, List, [], ◌∷◌}
 use Rattle.refusal.specs.declared.kind.Kind.{Kind}
 use Rattle.sources.specs.Halves.{Halves}
-use Rattle.protocol.specs.Seats.{Seat}
-use Rattle.protocol.specs.Course.{Ask, Course, done, look, say, hear, then}
+use Rattle.refusal.specs.declared.seat.Seat.{Seat}
+use Rattle.protocol.specs.Course.{Ask, Course, done, look, say, hear, and_then}
 use Rattle.protocol.specs.Run.{run}
 use Rattle.protocol.specs.Session.{session}
 
@@ -13,7 +13,7 @@ pub data Always {R : Type 0} (P : R → Type 0) : Course R → Type 0 where
   says : {w : ℕ} {c : Course R} → Always P c → Always P (say w c)
   hears : {n : ℕ} {c : ℕ → Course R} → ((w : ℕ) → Always P (c w)) → Always P (hear n c)
 
-pub always_then : {R S : Type 0} (P : S → Type 0) (g : R → S) → ((r : R) → P (g r)) → (p : Course R) → Always P (then p (λ r. done (g r)))
+pub always_then : {R S : Type 0} (P : S → Type 0) (g : R → S) → ((r : R) → P (g r)) → (p : Course R) → Always P (and_then p (λ r. done (g r)))
 always_then P g h (done r) = ends (h r)
 always_then P g h (look k a c) = looks (λ u. always_then P g h (c u))
 always_then P g h (say w c) = says (always_then P g h c)

@@ -1,26 +1,25 @@
 -- One lookup over rows of words, as the party at either seat sees it.
-use Rattle.std.proofs.Common.{◌≡◌, ℕ, ◌+◌, ◌-◌, ◌<◌, ◌≤◌, Bool, true, false, [], ◌∷◌, ◌++◌, length, get_or, take, sym, refl, ap, ◌∙◌, subst, arith}
-use mathlib.Core.List.{head-eq_of_cons-eq}
+use Rattle.std.proofs.Common.{◌≡◌, ℕ, ◌+◌, ◌-◌, ◌<◌, ◌≤◌, Bool, true, false, [], ◌∷◌, ◌++◌, length, slice_index_or, take, sym, refl, ap, ◌∙◌, subst, arith}
 use Rattle.std.proofs.lemmas.List.{take_more, take_all, take_at, length_push, get_or_push}
 use Rattle.refusal.specs.declared.kind.Kind.{Kind}
-use Rattle.refusal.specs.declared.kind.Kind.TheVariants.{Bit, Ring0, Ring1}
+use Rattle.refusal.specs.declared.kind.Kind.TheVariants.{Bit}
 use Rattle.refusal.specs.Kinds.{entries}
 use Rattle.lookup.specs.Once.{ExactlyOne}
 use Rattle.lookup.specs.Groups.{Laws}
-use Rattle.lookup.specs.Lookup.{Sender, Receiver, SenderSound, Fit, request, words, receiver_share}
+use Rattle.lookup.specs.Lookup.{Sender, Receiver, Fit, request, words, receiver_share}
 use Rattle.lookup.specs.Halves.{sender_from, receiver_from}
 use Rattle.lookup.specs.Instances.{xor_laws, add_laws}
 use Rattle.lookup.proofs.Pairing.{shares_join, words_in, table_hidden, index_hidden}
 use Rattle.sources.specs.Halves.{Half, operation}
-use Rattle.protocol.specs.Seats.{Seat, sends, Correlated, Paired}
+use Rattle.refusal.specs.declared.seat.Seat.{Seat}
+use Rattle.protocol.specs.Seats.{sends, Correlated, Paired}
 use Rattle.protocol.specs.Course.{Ask, AskIn, Joins}
 use Rattle.protocol.specs.Run.{sending, turn_by, turn}
 use Rattle.protocol.specs.Theorems.{LookupsShare, LookupsHide}
 
 pub laws : (k : Kind) → Laws (operation k)
 laws Bit = xor_laws
-laws Ring0 = add_laws
-laws Ring1 = add_laws
+laws _ = add_laws
 
 -- a half as a row of words
 
@@ -36,7 +35,7 @@ row_short s = let e = length_push s.masks s.blind in omega arith
 pub sender_back : (s : Sender) → sender_from (sender_row s) ≡ s
 sender_back s =
     let e = ap (λ n. take n (sender_row s)) (row_short s) ∙ take_at s.masks (s.blind ∷ []) (length s.masks) refl in
-    let f = ap (λ n. get_or (sender_row s) n 0) (row_short s) ∙ get_or_push s.masks s.blind 0 (length s.masks) refl in
+    let f = ap (λ n. slice_index_or (sender_row s) n 0) (row_short s) ∙ get_or_push s.masks s.blind 0 (length s.masks) refl in
     λ i. record { masks = e i; blind = f i }
 
 pub sender_forth : (n : ℕ) (h : Half) → length h ≡ n + 1 → sender_row (sender_from h) ≡ h
@@ -47,10 +46,8 @@ sender_forth n h l =
     sym (take_more h i 0 below) ∙ take_all (i + 1) h all
 
 pub receiver_forth : (h : Half) → length h ≡ 2 → receiver_row (receiver_from h) ≡ h
-receiver_forth [] l = absurd (let z : ⊥ = omega arith in z)
-receiver_forth (c ∷ []) l = absurd (let z : ⊥ = omega arith in z)
 receiver_forth (c ∷ (m ∷ [])) l = refl
-receiver_forth (c ∷ (m ∷ (x ∷ xs))) l = absurd (let z : ⊥ = omega arith in z)
+receiver_forth _ l = absurd (omega arith)
 
 -- the share that a party comes to goes by what it brings, its own half, and what it heard
 near_by : (b : Bool) (k : Kind) (a c c' : Ask) (x y y' : Half) → (turn_by b k a c' x y').near_heard ≡ (turn_by b k a c x y).near_heard →
@@ -92,7 +89,7 @@ sender_sees k a b b' x y B B' p =
     let one = index_hidden (operation k) (entries k) (sender_from x) (receiver_from y) b.index b'.index p.sender.sound p.receiver.sound p.fit B.index_in B'.index_in in (
       receiver_row one.0,
       (record { sender = p.sender; receiver = record { long = refl; sound = one.1.0 }; fit = one.1.1 }, ap (λ d. d ∷ []) one.1.2),
-      λ y' q. sym (receiver_forth y' q.0.receiver.long) ∙ ap receiver_row (one.2 (receiver_from y') (q.0.receiver.sound, q.0.fit, head-eq_of_cons-eq q.1)),
+      λ y' q. sym (receiver_forth y' q.0.receiver.long) ∙ ap receiver_row (one.2 (receiver_from y') (q.0.receiver.sound, q.0.fit, cc)),
     )
 
 -- the far party sends: one sender's half
@@ -105,7 +102,7 @@ receiver_sees k a b b' x y A B B' p =
       sender_row one.0,
       (
         record {
-          sender = record { long = long; sound = subst (SenderSound (operation k) (entries k)) (sym back) one.1.0 };
+          sender = record { long = long; sound = rw back one.1.0 };
           receiver = p.receiver;
           fit = subst (λ s. Fit s (receiver_from x)) (sym back) one.1.1;
         },

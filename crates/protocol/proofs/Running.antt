@@ -1,15 +1,17 @@
 -- What a run takes, leaves and comes to.
-use Rattle.std.proofs.Common.{◌≡◌, ℕ, suc, ◌≤◌, List, [], ◌∷◌, length, sym, refl, ap, ◌∙◌, subst, ap₂, add-zero, zero-add, arith}
-use mathlib.Core.Path.{fun_ext}
-use Rattle.std.specs.List.{AllZip}
+use Rattle.std.proofs.Common.{◌≡◌, ℕ, suc, ◌≤◌, List, [], ◌∷◌, length, sym, refl, ap, ◌∙◌, ap₂, add-zero, zero-add, arith}
+use Rattle.std.proofs.Math.Path.{fun_ext}
+use Rattle.std.proofs.Math.ListN.{get_or-append}
+use Rattle.std.proofs.lemmas.List.Elements.{AllZip-get_or}
 use Rattle.refusal.specs.declared.kind.Kind.{Kind}
 use Rattle.refusal.specs.Kinds.{on}
 use Rattle.sources.specs.Halves.{Half, Halves}
-use Rattle.protocol.specs.Seats.{Seat, sends, Paired, LawfulAt, next, rest, front, back, before, Enough}
+use Rattle.refusal.specs.declared.seat.Seat.{Seat}
+use Rattle.protocol.specs.Seats.{sends, Paired, LawfulAt, next, rest, front, back, before, Enough}
 use Rattle.protocol.specs.Course.{Ask, Course, done, look, say, hear, Computes, ends, looks, says, hears}
 use Rattle.protocol.specs.Run.{Turn, turn, ask_of, word_of, next_of, Outcome, after_look, after_say, after_hear, run}
 use Rattle.protocol.specs.Theorems.{SoundnessOf, Account, MessageAccount, Cost}
-use Rattle.protocol.proofs.Supplies.{next_front, rest_front, some_left, rest_long, rest_back, next_append, rest_append, on_plus, each_first, each_rest, each_drop}
+use Rattle.protocol.proofs.Supplies.{next_front, rest_front, some_left, rest_long, rest_back, rest_append, on_plus, each_rest, each_drop}
 use Rattle.protocol.proofs.Lookups.{lookups_share}
 
 -- what an outcome says apart from the halves that are left
@@ -25,13 +27,13 @@ module _ {R : Type 0} where
   facts o = record { near = o.near; far = o.far; near_heard = o.near_heard; far_heard = o.far_heard; used = o.used }
 
   abbrev facts_look : Kind → Turn → Facts R → Facts R
-  facts_look k t o = record { near = o.near; far = o.far; near_heard = t.near_heard ∷ o.near_heard; far_heard = t.far_heard ∷ o.far_heard; used = λ j. on k j suc (o.used j) }
+  facts_look k t o = record o { near_heard = t.near_heard ∷ o.near_heard; far_heard = t.far_heard ∷ o.far_heard; used = λ j. on k j suc (o.used j) }
 
   abbrev facts_say : ℕ → Facts R → Facts R
-  facts_say w o = record { near = o.near; far = o.far; near_heard = o.near_heard; far_heard = (w ∷ []) ∷ o.far_heard; used = o.used }
+  facts_say w o = record o { far_heard = (w ∷ []) ∷ o.far_heard }
 
   abbrev facts_hear : ℕ → Facts R → Facts R
-  facts_hear w o = record { near = o.near; far = o.far; near_heard = (w ∷ []) ∷ o.near_heard; far_heard = o.far_heard; used = o.used }
+  facts_hear w o = record o { near_heard = (w ∷ []) ∷ o.near_heard }
 
   -- a run over just the front that it uses is the same
   pub fronts : (f : Seat) (p q : Course R) (n o : Halves) → facts (run f p q (front (run f p q n o).used n) (front (run f p q n o).used o)) ≡ facts (run f p q n o)
@@ -48,25 +50,19 @@ module _ {R : Type 0} where
   fronts f (say w c) q n o = ap (facts_say w) (fronts f c (next_of q w) n o)
   fronts f (hear l c) q n o = ap (facts_hear (word_of q)) (fronts f (c (word_of q)) (next_of q (word_of q)) n o)
 
-  near_left_is : (f : Seat) (p q : Course R) (n o : Halves) → (run f p q n o).near_left ≡ back (run f p q n o).used n
-  near_left_is f (done r) q n o = refl
-  near_left_is f (look k a c) q n o =
+  left_is : (f : Seat) (p q : Course R) (n o : Halves) →
+      ((run f p q n o).near_left ≡ back (run f p q n o).used n) × ((run f p q n o).far_left ≡ back (run f p q n o).used o)
+  left_is f (done r) q n o = (refl, refl)
+  left_is f (look k a c) q n o =
       let t : Turn = turn f k a (ask_of q) (next k n) (next k o) in
-      near_left_is f (c t.near) (next_of q t.far) (rest k n) (rest k o) ∙ fun_ext (λ j. rest_back k j _ (n j))
-  near_left_is f (say w c) q n o = near_left_is f c (next_of q w) n o
-  near_left_is f (hear l c) q n o = near_left_is f (c (word_of q)) (next_of q (word_of q)) n o
-
-  far_left_is : (f : Seat) (p q : Course R) (n o : Halves) → (run f p q n o).far_left ≡ back (run f p q n o).used o
-  far_left_is f (done r) q n o = refl
-  far_left_is f (look k a c) q n o =
-      let t : Turn = turn f k a (ask_of q) (next k n) (next k o) in
-      far_left_is f (c t.near) (next_of q t.far) (rest k n) (rest k o) ∙ fun_ext (λ j. rest_back k j _ (o j))
-  far_left_is f (say w c) q n o = far_left_is f c (next_of q w) n o
-  far_left_is f (hear l c) q n o = far_left_is f (c (word_of q)) (next_of q (word_of q)) n o
+      let e = left_is f (c t.near) (next_of q t.far) (rest k n) (rest k o) in
+      (e.0 ∙ fun_ext (λ j. rest_back k j _ (n j)), e.1 ∙ fun_ext (λ j. rest_back k j _ (o j)))
+  left_is f (say w c) q n o = left_is f c (next_of q w) n o
+  left_is f (hear l c) q n o = left_is f (c (word_of q)) (next_of q (word_of q)) n o
 
 -- the two next halves of a lawful deal, and what is left without them
 pub first_paired : (f : Seat) (k : Kind) (u : ℕ) (n o : Halves) → LawfulAt f n o → on k k suc u ≤ length (n k) → Paired (sends f k) k (next k n) (next k o)
-first_paired f k u n o law l = each_first (Paired (sends f k) k) (n k) (o k) [] [] (some_left k u (length (n k)) l) (law k)
+first_paired f k u n o law l = AllZip-get_or (Paired (sends f k) k) (n k) (o k) 0 [] [] (law k) (some_left k u (length (n k)) l)
 
 pub rest_lawful : (f : Seat) (k : Kind) (n o : Halves) → LawfulAt f n o → LawfulAt f (rest k n) (rest k o)
 rest_lawful f k n o law j = each_rest (Paired (sends f j) j) k j (n j) (o j) (law j)
@@ -84,20 +80,18 @@ module _ {R : Type 0} where
 pub soundness : (R : Type 0) (P : R → R → Type 0) → SoundnessOf R P
 soundness R P f p q n o C law long =
     let r : Outcome R = run f p q n o in
-    let e : r.near_left ≡ back r.used n = near_left_is f p q n o in
-    let e' : r.far_left ≡ back r.used o = far_left_is f p q n o in
+    let e = left_is f p q n o in
     record {
       related = related f P C n o law long;
-      near_left = e;
-      far_left = e';
-      lawful = λ k. subst (λ s. AllZip (Paired (sends f k) k) (s k) (r.far_left k)) (sym e)
-          (subst (λ s. AllZip (Paired (sends f k) k) (back r.used n k) (s k)) (sym e') (each_drop (Paired (sends f k) k) (r.used k) (n k) (o k) (law k)));
+      near_left = e.0;
+      far_left = e.1;
+      lawful = λ k. rw (e.0, e.1) (each_drop (Paired (sends f k) k) (r.used k) (n k) (o k) (law k));
     }
 
 -- a run over halves with more behind them
 
 abbrev and_left : {R : Type 0} → Halves → Halves → Outcome R → Outcome R
-and_left t t' o = record { near = o.near; far = o.far; near_heard = o.near_heard; far_heard = o.far_heard; near_left = before o.near_left t; far_left = before o.far_left t'; used = o.used }
+and_left t t' o = record o { near_left = before o.near_left t; far_left = before o.far_left t' }
 
 pub look_past : {R : Type 0} (f : Seat) (k : Kind) (a : Ask) (c : ℕ → Course R) (q : Course R) (u : Kind → ℕ) (s t s' t' : Halves) →
     ((j : Kind) → on k j suc (u j) ≤ length (s j)) → ((j : Kind) → on k j suc (u j) ≤ length (s' j)) →
@@ -108,7 +102,7 @@ look_past {R} f k a c q u s t s' t' l l' =
     let go : Half → Half → Halves → Halves → Outcome R = λ x y s s'. let t = turn f k a (ask_of q) x y in
     after_look k t (run f (c t.near) (next_of q t.far) s s') in
     ap₂ (λ x y. go x y (rest k (before s t)) (rest k (before s' t')))
-    (next_append (s k) (t k) [] (some_left k (u k) (length (s k)) (l k))) (next_append (s' k) (t' k) [] (some_left k (u k) (length (s' k)) (l' k)))
+    (get_or-append (s k) (t k) [] 0 (some_left k (u k) (length (s k)) (l k))) (get_or-append (s' k) (t' k) [] 0 (some_left k (u k) (length (s' k)) (l' k)))
     ∙ ap₂ (go (next k s) (next k s')) (fun_ext (λ j. rest_append k j (u j) (s j) (t j) (l j))) (fun_ext (λ j. rest_append k j (u j) (s' j) (t' j) (l' j)))
 
 -- What is past the front that a run uses makes no difference, and is left over.

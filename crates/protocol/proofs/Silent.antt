@@ -1,17 +1,19 @@
 -- A run tells a party nothing of what the other does, but for the words that the other says.
-use Rattle.std.proofs.Common.{◌≡◌, ℕ, suc, ◌<◌, ◌≤◌, [], ◌∷◌, length, get_or, sym, refl, ap, ◌∙◌, subst, ap₂, arith}
-use mathlib.Core.Path.{fun_ext}
-use mathlib.Core.List.{head-eq_of_cons-eq, tail-eq_of_cons-eq}
+use Rattle.std.proofs.Common.{◌≡◌, ℕ, suc, ◌<◌, ◌≤◌, [], ◌∷◌, length, slice_index_or, sym, refl, ap, ◌∙◌, subst, ap₂, arith}
+use Rattle.std.specs.Prelude.{⊤}
+use Rattle.std.proofs.Math.Path.{fun_ext}
+use Rattle.std.proofs.lemmas.Slice.Zip.{AllZip-long}
 use Rattle.std.proofs.lemmas.List.{length-take-le, take_all}
 use Rattle.refusal.specs.declared.kind.Kind.{Kind}
 use Rattle.refusal.specs.Kinds.{on}
 use Rattle.lookup.specs.Once.{ExactlyOne}
 use Rattle.sources.specs.Halves.{Half, Halves}
-use Rattle.protocol.specs.Seats.{Seat, sends, Paired, LawfulAt, next, rest, front, Enough}
+use Rattle.refusal.specs.declared.seat.Seat.{Seat}
+use Rattle.protocol.specs.Seats.{sends, Paired, LawfulAt, next, rest, front, Enough}
 use Rattle.protocol.specs.Course.{Ask, AskIn, Course, look, Shares, Computes, Alike, ends, looks, says, hears, Unheard}
 use Rattle.protocol.specs.Run.{Turn, turn, Outcome, after_look, run}
 use Rattle.protocol.specs.Theorems.{Silent, SilenceOf, BothWays}
-use Rattle.protocol.proofs.Supplies.{push, next_push, rest_push, some_left, rest_exact, each_none, each_empty, each_take, each_long, each_push, each_split}
+use Rattle.protocol.proofs.Supplies.{push, next_push, rest_push, some_left, rest_exact, each_none, each_empty, each_take, each_push, each_split}
 use Rattle.protocol.proofs.Lookups.{near_same, lookups_hide, lookups_share}
 use Rattle.protocol.proofs.Running.{Facts, facts, fronts, first_paired, rest_lawful}
 
@@ -91,7 +93,7 @@ module _ {R : Type 0} (f : Seat) (P : R → R → R → Type 0) (k : Kind) (a b 
     z = next k o'
 
     first_heard : (t' z).near_heard ≡ t.near_heard
-    first_heard = head-eq_of_cons-eq seen.1
+    first_heard = cc
 
     z_is : z ≡ y'
     z_is = one.2 z (paired o' seen.0, first_heard)
@@ -99,13 +101,13 @@ module _ {R : Type 0} (f : Seat) (P : R → R → R → Type 0) (k : Kind) (a b 
     rest_is : rest k o' ≡ deep.it
     rest_is = deep.only (rest k o') (
       rest_lawful f k n o' seen.0,
-      ap₂ (λ u w. (run f (c u) (d' (t' w).far) (rest k n) (rest k o')).near_heard) (sym (kept z first_heard)) (sym z_is) ∙ tail-eq_of_cons-eq seen.1,
+      ap₂ (λ u w. (run f (c u) (d' (t' w).far) (rest k n) (rest k o')).near_heard) (sym (kept z first_heard)) (sym z_is) ∙ (cc),
       ap₂ (λ u w. (run f (c u) (d' (t' w).far) (rest k n) (rest k o')).near) (sym (kept z first_heard)) (sym z_is) ∙ seen.2,
     )
 
     made_is : o' ≡ made
     made_is =
-        fun_ext (λ j. each_split (Paired (sends f j) j) k j (n j) (o' j) z [] (some_at j) (λ e. ap (λ i. get_or (o' i) 0 []) e) (seen.0 j))
+        fun_ext (λ j. each_split (Paired (sends f j) j) k j (n j) (o' j) z [] (some_at j) (λ e. ap (λ i. slice_index_or (o' i) 0 []) e) (seen.0 j))
         ∙ ap₂ (λ w r. push k w r) z_is rest_is
 
   extended : One f P (look k a c) (look k b d) (look k b' d') n o
@@ -113,7 +115,7 @@ module _ {R : Type 0} (f : Seat) (P : R → R → R → Type 0) (k : Kind) (a b 
     it = made;
     seen = (
       (λ j. each_push (Paired (sends f j) j) k j (n j) (deep.it j) [] y' (some_at j)
-          (λ e. subst (λ i. Paired (sends f i) i (get_or (n i) 0 []) y') e one.1.0) (deep.seen.0 j)),
+          (λ e. subst (λ i. Paired (sends f i) i (slice_index_or (n i) 0 []) y') e one.1.0) (deep.seen.0 j)),
       ap (λ (r : Outcome R). r.near_heard) made_run ∙ ap₂ (λ w l. w ∷ l) one.1.1 deep.seen.1,
       ap (λ (r : Outcome R). r.near) made_run ∙ deep.seen.2,
     );
@@ -142,7 +144,7 @@ core f P (hears {w} h) n o exact law =
       seen = (one.seen.0, ap (λ l. (w ∷ []) ∷ l) one.seen.1, one.seen.2);
       same_used = one.same_used;
       related = one.related;
-      only = λ z s. one.only z (s.0, tail-eq_of_cons-eq s.1, s.2);
+      only = λ z s. one.only z (s.0, cc, s.2);
     }
 
 -- For any lawful deal that is long enough, by the fronts that the run uses.
@@ -177,7 +179,7 @@ module _ {R : Type 0} (f : Seat) (P : R → R → R → Type 0) (p q q' : Course
     one = (
       cored.it,
       record {
-        exact = λ k. each_long (Paired (sends f k) k) (n k) (cored.it k) (cored.seen.0 k) ∙ long_is k;
+        exact = λ k. AllZip-long (Paired (sends f k) k) (n k) (cored.it k) (cored.seen.0 k) ∙ long_is k;
         lawful = cored.seen.0;
         heard = cored.seen.1 ∙ same_heard;
         result = cored.seen.2 ∙ same_near;
@@ -192,21 +194,21 @@ pub silence : (R : Type 0) (P : R → R → R → Type 0) → SilenceOf R P
 silence R P f p q q' hf ho alike law long = silent f P p q q' hf ho alike law long
 
 -- Two courses of the other that each go together with one in which no word is heard are alike to it.
-pub alike_of : {R : Type 0} (f : Seat) (P Q : R → R → Type 0) {p q q' : Course R} → Unheard p → Computes f P p q → Computes f Q p q' → Alike f (λ r s s'. P r s × Q r s') p q q'
-alike_of f P Q ends (ends h) (ends h') = ends (h, h')
-alike_of f P Q (looks m) (looks A B h) (looks A' B' h') = looks A B B' (λ u v v' s s'. alike_of f P Q (m u) (h u v s) (h' u v' s'))
-alike_of f P Q (says m) (says l h) (says l' h') = says (alike_of f P Q m h h')
+pub alike_of : {R : Type 0} {f : Seat} {P Q : R → R → Type 0} {p q q' : Course R} → Unheard p → Computes f P p q → Computes f Q p q' → Alike f (λ r s s'. P r s × Q r s') p q q'
+alike_of ends (ends h) (ends h') = ends (h, h')
+alike_of (looks m) (looks A B h) (looks A' B' h') = looks A B B' (λ u v v' s s'. alike_of (m u) (h u v s) (h' u v' s'))
+alike_of (says m) (says l h) (says l' h') = says (alike_of m h h')
 
 pub both_ways : (R : Type 0) → BothWays R
 both_ways R f p q q' hf ho z alike law exact e =
     let first : Outcome R = run f p q hf ho in
-    let s = silence R (λ _ _ _. Unit {0}) f p q q' hf ho alike law (λ k. omega (arith, exact k)) in
+    let s = silence R (λ _ _ _. ⊤) f p q q' hf ho alike law (λ k. omega (arith, exact k)) in
     let whole : front first.used hf ≡ hf = fun_ext (λ k. let l : length (hf k) ≤ first.used k = omega (arith, exact k) in take_all (first.used k) (hf k) l) in
     let is : z ≡ s.one.0 = s.one.2 z e in
     let same : (run f p q' hf z).used ≡ first.used = ap₂ (λ n o. (run f p q' n o).used) (sym whole) is ∙ s.same_used in
     let whole' : front (run f p q' hf z).used hf ≡ hf = ap (λ c. front c hf) same ∙ whole in
     record {
-      exact = λ k. each_long (Paired (sends f k) k) (hf k) (ho k) (law k) ∙ exact k ∙ sym (ap (λ (c : Kind → ℕ). c k) same);
+      exact = λ k. AllZip-long (Paired (sends f k) k) (hf k) (ho k) (law k) ∙ exact k ∙ sym (ap (λ (c : Kind → ℕ). c k) same);
       lawful = subst (λ n. LawfulAt f n ho) (sym whole') law;
       heard = ap (λ n. (run f p q n ho).near_heard) whole' ∙ sym e.heard ∙ ap (λ n. (run f p q' n z).near_heard) whole;
       result = ap (λ n. (run f p q n ho).near) whole' ∙ sym e.result ∙ ap (λ n. (run f p q' n z).near) whole;

@@ -1,16 +1,17 @@
 -- What lies behind the halves that a run uses does not matter to what explains it.
 use Rattle.std.proofs.Common.{◌≡◌, ℕ, suc, ◌≤◌, length, sym, refl, ap, ◌∙◌, subst, arith, take-append-drop}
-use mathlib.Core.Path.{fun_ext}
-use mathlib.Core.List.{head-eq_of_cons-eq, tail-eq_of_cons-eq}
+use Rattle.std.proofs.Math.Path.{fun_ext}
+use Rattle.std.proofs.lemmas.Slice.Zip.{AllZip-long}
 use Rattle.std.proofs.lemmas.List.{length-take-le, take_at}
 use Rattle.refusal.specs.declared.kind.Kind.{Kind}
 use Rattle.refusal.specs.Kinds.{on}
 use Rattle.sources.specs.Halves.{Halves}
-use Rattle.protocol.specs.Seats.{Seat, sends, Paired, LawfulAt, next, rest, front, back, before as followed_by, Enough}
+use Rattle.refusal.specs.declared.seat.Seat.{Seat}
+use Rattle.protocol.specs.Seats.{sends, Paired, LawfulAt, next, rest, front, back, before as followed_by, Enough}
 use Rattle.protocol.specs.Course.{Course, look, Shares, Alike, ends, looks, says, hears}
 use Rattle.protocol.specs.Run.{Turn, turn, Outcome, after_look, run}
 use Rattle.protocol.specs.Theorems.{Explains, ExplainsBefore, WholeOf}
-use Rattle.protocol.proofs.Supplies.{rest_exact, each_take, each_long}
+use Rattle.protocol.proofs.Supplies.{rest_exact, each_take}
 use Rattle.protocol.proofs.Lookups.{near_same, lookups_share}
 use Rattle.protocol.proofs.Running.{Facts, facts, fronts, first_paired, rest_lawful, look_past, past}
 use Rattle.protocol.proofs.Silent.{silence}
@@ -28,11 +29,11 @@ used_same {R} f P (looks {k} {a} {b} {b'} {c} {d} {d'} A B B' h) n t o z t' exac
     let w' : Turn = turn f k a b' x v in
     let u : Kind → ℕ = (run f (c w.near) (d w.far) (rest k n) (rest k o)).used in
     let long : (j : Kind) → on k j suc (u j) ≤ length (n j) = λ j. omega (arith, exact j) in
-    let long' : (j : Kind) → on k j suc (u j) ≤ length (z j) = λ j. omega (arith, exact j, each_long (Paired (sends f j) j) (n j) (z j) (law' j)) in
+    let long' : (j : Kind) → on k j suc (u j) ≤ length (z j) = λ j. omega (arith, exact j, AllZip-long (Paired (sends f j) j) (n j) (z j) (law' j)) in
     let e : run f (look k a c) (look k b' d') (followed_by n t) (followed_by z t')
     ≡ after_look k w' (run f (c w'.near) (d' w'.far) (followed_by (rest k n) t) (followed_by (rest k z) t')) = look_past f k a c (look k b' d') u n t z t' long long' in
     let heard' = sym (ap (λ (r : Outcome R). r.near_heard) e) ∙ heard in
-    let kept : w'.near ≡ w.near = near_same f k a b b' x (next k o) v (head-eq_of_cons-eq heard') in
+    let kept : w'.near ≡ w.near = near_same f k a b b' x (next k o) v (cc) in
     let after : ℕ → Outcome R = λ i. run f (c i) (d' w'.far) (followed_by (rest k n) t) (followed_by (rest k z) t') in
     let more : (Kind → ℕ) → Kind → ℕ = λ m j. on k j suc (m j) in
     ap (λ (r : Outcome R). r.used) e
@@ -41,9 +42,9 @@ used_same {R} f P (looks {k} {a} {b} {b'} {c} {d} {d'} A B B' h) n t o z t' exac
     (h w.near w.far w'.far (lookups_share f k a b x (next k o) A B (first_paired f k (u k) n o law (long k)))
     (subst (λ i. Shares f k a b' i w'.far) kept (lookups_share f k a b' x v A B' (first_paired f k (u k) n z law' (long k)))))
     (rest k n) t (rest k o) (rest k z) t' (λ j. rest_exact k j (u j) (n j) (exact j)) (rest_lawful f k n o law) (rest_lawful f k n z law')
-    (ap (λ i. (after i).near_heard) (sym kept) ∙ tail-eq_of_cons-eq heard'))
+    (ap (λ i. (after i).near_heard) (sym kept) ∙ (cc)))
 used_same f P (says h) n t o z t' exact law law' heard = used_same f P h n t o z t' exact law law' heard
-used_same f P (hears h) n t o z t' exact law law' heard = used_same f P h n t o z t' exact law law' (tail-eq_of_cons-eq heard)
+used_same f P (hears h) n t o z t' exact law law' heard = used_same f P h n t o z t' exact law law' (cc)
 
 module _ {R : Type 0} (f : Seat) (P : R → R → R → Type 0) (p q q' : Course R) (hf ho : Halves) (alike : Alike f P p q q') (law : LawfulAt f hf ho)
     (long : Enough (run f p q hf ho).used hf) (t' z : Halves) where

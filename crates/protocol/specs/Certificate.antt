@@ -1,9 +1,10 @@
 -- What an engine of commands has to show, and what then holds of every session.
-use Rattle.std.specs.Prelude.{◌≡◌, ℕ, ◌+◌, ◌≤◌, Bool, T, List, [], ◌∷◌, map, length}
+use Rattle.std.specs.Prelude.{◌≡◌, ℕ, ◌+◌, ◌≤◌, Bool, IsTrue, List, map, length, fold, scan}
 use Rattle.refusal.specs.declared.kind.Kind.{Kind}
 use Rattle.lookup.specs.Once.{ExactlyOne}
 use Rattle.sources.specs.Halves.{Halves}
-use Rattle.protocol.specs.Seats.{Seat, LawfulAt}
+use Rattle.refusal.specs.declared.seat.Seat.{Seat}
+use Rattle.protocol.specs.Seats.{LawfulAt}
 use Rattle.protocol.specs.Course.{Course, Computes, Alike, Spends, Talks}
 use Rattle.protocol.specs.Run.{Outcome, messages}
 use Rattle.protocol.specs.Theorems.{Sound, ExplainsBefore}
@@ -12,12 +13,10 @@ use Rattle.protocol.specs.Session.{session, Agrees}
 -- Worlds of W are what the commands of C mean: `step` is what a command does to one, `shown` what it shows a party of one.
 
 abbrev pub steps : {C W : Type 0} → (C → W → W) → List C → W → W
-steps step [] w = w
-steps step (c ∷ cs) w = steps step cs (step c w)
+steps step cs w = fold (λ u c. step c u) w cs
 
 abbrev pub shown_by : {C W O : Type 0} → (C → W → W) → (C → W → O) → List C → W → List O
-shown_by step shown [] w = []
-shown_by step shown (c ∷ cs) w = shown c w ∷ shown_by step shown cs (step c w)
+shown_by step shown cs w = scan (λ u c. step c u) (λ u c. shown c u) w cs
 
 -- An engine, with the party at the seat f near: of each command that party is told a D. Its states of S say how many halves
 -- of each kind are left, and how many messages may still be sent. I relates a world to the two parties' states, J is what
@@ -60,5 +59,5 @@ module _ {C D W S O : Type 0} (f : Seat) (I : W → S → S → Type 0) (J : S �
 abbrev pub Certificate : Type 0 → Type 0 → Type 0 → Type 0 → Type 0 → Type 0
 Certificate C D W S O = (I : W → S → S → Bool) (J : S → S → Bool) (left : S → Kind → ℕ) (budget : S → ℕ) (f : Seat)
     (told : C → D) (near : D → S → Course S) (far : C → S → Course S) (step : C → W → W) (shown : C → W → O) →
-    Engine f (λ w a b. T (I w a b)) (λ a b. T (J a b)) left budget told near far step shown →
-    Certified f (λ w a b. T (I w a b)) (λ a b. T (J a b)) left budget told near far step shown
+    Engine f (λ w a b. IsTrue (I w a b)) (λ a b. IsTrue (J a b)) left budget told near far step shown →
+    Certified f (λ w a b. IsTrue (I w a b)) (λ a b. IsTrue (J a b)) left budget told near far step shown

@@ -4,7 +4,8 @@ use Rattle.refusal.specs.declared.kind.Kind.{Kind}
 use Rattle.refusal.specs.Kinds.{entries, on}
 use Rattle.lookup.specs.Lookup.{TableIn}
 use Rattle.sources.specs.Halves.{operation}
-use Rattle.protocol.specs.Seats.{Seat, sends}
+use Rattle.refusal.specs.declared.seat.Seat.{Seat}
+use Rattle.protocol.specs.Seats.{sends}
 
 -- What a party brings to a lookup: if it sends, the table counts, and else the index.
 pub record Ask : Type 0 where
@@ -28,11 +29,11 @@ abbrev pub lookup : {R : Type 0} → Kind → (ℕ → ℕ) → ℕ → (ℕ →
 lookup k t y c = look k (record { table = t; index = y }) c
 
 -- one course, then another that goes by its result
-abbrev pub then : {R S : Type 0} → Course R → (R → Course S) → Course S
-then (done r) g = g r
-then (look k a c) g = look k a (λ u. then (c u) g)
-then (say w c) g = say w (then c g)
-then (hear n c) g = hear n (λ w. then (c w) g)
+abbrev pub and_then : {R S : Type 0} → Course R → (R → Course S) → Course S
+and_then (done r) g = g r
+and_then (look k a c) g = look k a (λ u. and_then (c u) g)
+and_then (say w c) g = say w (and_then c g)
+and_then (hear n c) g = hear n (λ w. and_then (c w) g)
 
 -- The shares join to the entry that is sought: u of the near party, which brings a, and v of the far one, which brings b.
 -- The test says whether the near party sends.

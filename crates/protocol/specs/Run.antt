@@ -5,7 +5,8 @@ use Rattle.refusal.specs.Kinds.{entries, on}
 use Rattle.lookup.specs.Lookup.{request, words, sender_share, receiver_share}
 use Rattle.lookup.specs.Halves.{sender_from, receiver_from}
 use Rattle.sources.specs.Halves.{Half, Halves, operation}
-use Rattle.protocol.specs.Seats.{Seat, sends, next, rest}
+use Rattle.refusal.specs.declared.seat.Seat.{Seat}
+use Rattle.protocol.specs.Seats.{sends, next, rest}
 use Rattle.protocol.specs.Course.{Ask, Course, done, look, say, hear}
 
 -- what a lookup leaves: the shares of the near and of the far party, and what each heard
@@ -42,16 +43,12 @@ no_ask = record { table = λ _. 0; index = 0 }
 
 module _ {R : Type 0} where
   abbrev pub ask_of : Course R → Ask
-  ask_of (done r) = no_ask
   ask_of (look k a c) = a
-  ask_of (say w c) = no_ask
-  ask_of (hear n c) = no_ask
+  ask_of _ = no_ask
 
   abbrev pub word_of : Course R → ℕ
-  word_of (done r) = 0
-  word_of (look k a c) = 0
   word_of (say w c) = w
-  word_of (hear n c) = 0
+  word_of _ = 0
 
   abbrev pub next_of : Course R → ℕ → Course R
   next_of (done r) u = done r
@@ -81,37 +78,13 @@ module _ {R : Type 0} where
   messages o = length o.near_heard + length o.far_heard
 
   abbrev pub after_look : Kind → Turn → Outcome R → Outcome R
-  after_look k t o = record {
-    near = o.near;
-    far = o.far;
-    near_heard = t.near_heard ∷ o.near_heard;
-    far_heard = t.far_heard ∷ o.far_heard;
-    near_left = o.near_left;
-    far_left = o.far_left;
-    used = λ j. on k j suc (o.used j);
-  }
+  after_look k t o = record o { near_heard = t.near_heard ∷ o.near_heard; far_heard = t.far_heard ∷ o.far_heard; used = λ j. on k j suc (o.used j) }
 
   abbrev pub after_say : ℕ → Outcome R → Outcome R
-  after_say w o = record {
-    near = o.near;
-    far = o.far;
-    near_heard = o.near_heard;
-    far_heard = (w ∷ []) ∷ o.far_heard;
-    near_left = o.near_left;
-    far_left = o.far_left;
-    used = o.used;
-  }
+  after_say w o = record o { far_heard = (w ∷ []) ∷ o.far_heard }
 
   abbrev pub after_hear : ℕ → Outcome R → Outcome R
-  after_hear w o = record {
-    near = o.near;
-    far = o.far;
-    near_heard = (w ∷ []) ∷ o.near_heard;
-    far_heard = o.far_heard;
-    near_left = o.near_left;
-    far_left = o.far_left;
-    used = o.used;
-  }
+  after_hear w o = record o { near_heard = (w ∷ []) ∷ o.near_heard }
 
   -- the course p of the party at the seat f against q of the other, over the halves of the two
   abbrev pub run : Seat → Course R → Course R → Halves → Halves → Outcome R

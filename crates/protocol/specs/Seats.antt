@@ -1,23 +1,18 @@
 -- The two seats, and what is dealt to them.
 use Rattle.std.specs.Prelude.{ℕ, ◌≤◌, Bool, true, false, [], ◌++◌, length, take, drop, slice_index_or}
-use mathlib.Core.List.{tail}
 use Rattle.std.specs.List.{AllZip}
 use Rattle.refusal.specs.declared.kind.Kind.{Kind}
+use Rattle.refusal.specs.declared.seat.Seat.{Seat}
+use Rattle.refusal.specs.declared.seat.Seat.TheVariants.{Zero, One}
 use Rattle.refusal.specs.Kinds.{on}
+use Rattle.refusal.specs.Seats.{number}
 use Rattle.lookup.specs.Lookup.{Fit}
 use Rattle.lookup.specs.Halves.{sender_from, receiver_from}
 use Rattle.sources.specs.Halves.{Half, Halves, SenderInRange, ReceiverInRange, sends as sends_by}
 
-pub data Seat : Type 0 where
-  seat_0 seat_1 : Seat
-
-abbrev pub number : Seat → ℕ
-number seat_0 = 0
-number seat_1 = 1
-
 abbrev pub other : Seat → Seat
-other seat_0 = seat_1
-other seat_1 = seat_0
+other Zero = One
+other One = Zero
 
 -- whether the party at a seat sends in lookups of a kind
 abbrev pub sends : Seat → Kind → Bool
@@ -43,7 +38,7 @@ abbrev pub next : Kind → Halves → Half
 next k s = slice_index_or (s k) 0 []
 
 abbrev pub rest : Kind → Halves → Halves
-rest k s j = on k j tail (s j)
+rest k s j = on k j (drop 1) (s j)
 
 -- the first halves of each kind, as many as c says; what is left without them; and halves with more behind them
 abbrev pub front : (Kind → ℕ) → Halves → Halves

@@ -1,9 +1,11 @@
 -- What is proved of a run of two courses.
-use Rattle.std.specs.Prelude.{◌≡◌, ℕ, ◌+◌, Bool, T, length}
+use Rattle.std.specs.Prelude.{◌≡◌, ℕ, ◌+◌, Bool, IsTrue, ⊤, length}
 use Rattle.refusal.specs.declared.kind.Kind.{Kind}
 use Rattle.lookup.specs.Once.{ExactlyOne}
 use Rattle.sources.specs.Halves.{Half, Halves}
-use Rattle.protocol.specs.Seats.{Seat, seat_0, seat_1, sends, Paired, LawfulAt, front, back, before, Enough}
+use Rattle.refusal.specs.declared.seat.Seat.{Seat}
+use Rattle.refusal.specs.declared.seat.Seat.TheVariants.{Zero, One}
+use Rattle.protocol.specs.Seats.{sends, Paired, LawfulAt, front, back, before, Enough}
 use Rattle.protocol.specs.Course.{Ask, AskIn, Shares, Course, Computes, Alike, Matched, Spends, Costs, Talks}
 use Rattle.protocol.specs.Run.{turn, Outcome, messages, run, flipped}
 
@@ -30,7 +32,7 @@ SoundnessOf R P = (f : Seat) (p q : Course R) (hf ho : Halves) →
 
 -- a contract can speak of relations that are tests; the lemma is of any
 abbrev pub Soundness : Type 0 → Type 0
-Soundness R = (P : R → R → Bool) → SoundnessOf R (λ r s. T (P r s))
+Soundness R = (P : R → R → Bool) → SoundnessOf R (λ r s. IsTrue (P r s))
 
 -- A course that has n lookups on each way uses n correlations.
 abbrev pub Cost : Type 0 → Type 0
@@ -66,7 +68,7 @@ SilenceOf R P = (f : Seat) (p q q' : Course R) (hf ho : Halves) →
     Alike f P p q q' → LawfulAt f hf ho → Enough (run f p q hf ho).used hf → Silent f P (run f p q hf ho) (run f p q') hf
 
 abbrev pub Silence : Type 0 → Type 0
-Silence R = (P : R → R → R → Bool) → SilenceOf R (λ r s s'. T (P r s s'))
+Silence R = (P : R → R → R → Bool) → SilenceOf R (λ r s s'. IsTrue (P r s s'))
 
 -- The same over all the halves there are: z in front of any more that the other has.
 pub record ExplainsBefore {R : Type 0} (f : Seat) (first : Outcome R) (second : Halves → Halves → Outcome R) (hf more z : Halves) : Type 0 where
@@ -83,17 +85,17 @@ WholeOf R P = (f : Seat) (p q q' : Course R) (hf ho : Halves) →
 
 -- What explains a run is the same, whatever lies behind it.
 abbrev pub Whole : Type 0 → Type 0
-Whole R = WholeOf R (λ _ _ _. Unit {0})
+Whole R = WholeOf R (λ _ _ _. ⊤)
 
 -- Where the deal is just as long as the run, the other way holds too: so what q and q' may have been dealt is paired one to one.
 abbrev pub BothWays : Type 0 → Type 0
 BothWays R = (f : Seat) (p q q' : Course R) (hf ho z : Halves) →
-    Alike f (λ _ _ _. Unit {0}) p q q' → LawfulAt f hf ho → ((k : Kind) → length (hf k) ≡ (run f p q hf ho).used k) →
+    Alike f (λ _ _ _. ⊤) p q q' → LawfulAt f hf ho → ((k : Kind) → length (hf k) ≡ (run f p q hf ho).used k) →
     Explains f (run f p q hf ho) (run f p q') hf z → Explains f (run f p q' hf z) (run f p q) hf ho
 
 -- The two seats see one and the same run, if the courses go together.
 abbrev pub OneRun : Type 0 → Type 0
-OneRun R = (p q : Course R) (h0 h1 : Halves) → Matched (λ _ _. Unit {0}) p q → run seat_1 q p h1 h0 ≡ flipped (run seat_0 p q h0 h1)
+OneRun R = (p q : Course R) (h0 h1 : Halves) → Matched (λ _ _. ⊤) p q → run One q p h1 h0 ≡ flipped (run Zero p q h0 h1)
 
 -- There is a lawful deal of any length, so that no premise of lawfulness is empty.
 abbrev pub DealsExist : Type 0

@@ -1,54 +1,47 @@
 -- A refusal is read back from its number and values.
-use Rattle.std.proofs.Common.{◌≡◌, ℕ, cond, eqb, List, get_or, sym, refl, ap, ◌∙◌}
-use Rattle.refusal.specs.declared.kind.Kind.{Kind}
-use Rattle.refusal.specs.declared.kind.Kind.TheVariants.{Bit, Ring0, Ring1}
+use Rattle.std.specs.Prelude.{◌≡◌, ℕ, List, if◌then◌else◌, ◌==◌, slice_index, refl}
+use Rattle.std.proofs.Common.{sym, ap, ◌∙◌}
 use Rattle.refusal.specs.declared.refusal.Layer.{Layer}
 use Rattle.refusal.specs.declared.refusal.Layer.TheVariants.{Sheet, Dealer, Quota}
 use Rattle.refusal.specs.declared.refusal.Shortage.{Shortage}
 use Rattle.refusal.specs.declared.refusal.Refusal.{Refusal}
 use Rattle.refusal.specs.declared.refusal.Refusal.TheVariants.{SeatsWrong, BusyOrUnlike, ChannelUnfit, NoSuchRegister, BadWidth, EmptyOperand, WidthsDiffer, BadArgument, CorrelationsShort, Short, BudgetShort, WrongTurn, PlaceTooShort, WrongMessage, BadLength, ChannelFull, BudgetSpent, NoneWaiting, BadSheet}
-use Rattle.refusal.specs.Kinds.{number as kind_number}
+use Rattle.refusal.specs.Kinds.{number as kind_number, kind_of}
 use Rattle.refusal.specs.Refusals.{Code, code, layer_number, CodesTellApart}
-
-abbrev kind_from : ℕ → Kind
-kind_from n = cond (eqb n 0) Bit (cond (eqb n 1) Ring0 Ring1)
+use Rattle.refusal.proofs.Reading.{kind_of_number}
 
 abbrev layer_from : ℕ → Layer
-layer_from n = cond (eqb n 0) Sheet (cond (eqb n 1) Dealer Quota)
+layer_from n = if n == 0 then Sheet else if n == 1 then Dealer else Quota
 
 -- the shortage in the values from the place i on
 abbrev shortage_from : List ℕ → ℕ → ℕ → ℕ → Shortage
-shortage_from vs i j k = record { kind = kind_from (get_or vs i 0); lacking = get_or vs j 0; layer = layer_from (get_or vs k 0) }
+shortage_from vs i j k = record { kind = kind_of (slice_index vs i); lacking = slice_index vs j; layer = layer_from (slice_index vs k) }
 
 abbrev one_to_eight : ℕ → Refusal
 one_to_eight n =
-    cond (eqb n 1) SeatsWrong
-    (cond (eqb n 2) BusyOrUnlike (cond (eqb n 3) ChannelUnfit (cond (eqb n 4) NoSuchRegister (cond (eqb n 5) BadWidth (cond (eqb n 6) EmptyOperand (cond (eqb n 7) WidthsDiffer BadArgument))))))
+    if n == 1 then SeatsWrong else if n == 2 then BusyOrUnlike else if n == 3 then ChannelUnfit else if n == 4 then NoSuchRegister
+    else if n == 5 then BadWidth else if n == 6 then EmptyOperand else if n == 7 then WidthsDiffer else BadArgument
 
 abbrev twelve_up : ℕ → Refusal → Refusal
-twelve_up n else =
-    cond (eqb n 12) WrongTurn
-    (cond (eqb n 13) PlaceTooShort (cond (eqb n 14) WrongMessage (cond (eqb n 15) BadLength (cond (eqb n 16) ChannelFull (cond (eqb n 17) BudgetSpent (cond (eqb n 18) NoneWaiting (cond (eqb n 19) BadSheet else)))))))
+twelve_up n others =
+    if n == 12 then WrongTurn else if n == 13 then PlaceTooShort else if n == 14 then WrongMessage else if n == 15 then BadLength
+    else if n == 16 then ChannelFull else if n == 17 then BudgetSpent else if n == 18 then NoneWaiting else if n == 19 then BadSheet else others
 
 abbrev decode : Code → Refusal
 decode c =
     let vs = c.values in
-    cond (eqb c.number 9) (CorrelationsShort (get_or vs 0 0) (shortage_from vs 1 2 3))
-    (cond (eqb c.number 10) (Short (shortage_from vs 0 1 2))
-    (cond (eqb c.number 11) (BudgetShort (get_or vs 0 0)) (twelve_up c.number (one_to_eight c.number))))
-
-kind_back : (k : Kind) → kind_from (kind_number k) ≡ k
-kind_back Bit = refl
-kind_back Ring0 = refl
-kind_back Ring1 = refl
+    if c.number == 9 then CorrelationsShort (slice_index vs 0) (shortage_from vs 1 2 3)
+    else if c.number == 10 then Short (shortage_from vs 0 1 2)
+    else if c.number == 11 then BudgetShort (slice_index vs 0)
+    else twelve_up c.number (one_to_eight c.number)
 
 layer_back : (l : Layer) → layer_from (layer_number l) ≡ l
 layer_back Sheet = refl
 layer_back Dealer = refl
 layer_back Quota = refl
 
-shortage_back : (s : Shortage) → record { kind = kind_from (kind_number s.kind); lacking = s.lacking; layer = layer_from (layer_number s.layer) } ≡ s
-shortage_back s = let a = kind_back s.kind in let b = layer_back s.layer in λ i. record { kind = a i; lacking = s.lacking; layer = b i }
+shortage_back : (s : Shortage) → record { kind = kind_of (kind_number s.kind); lacking = s.lacking; layer = layer_from (layer_number s.layer) } ≡ s
+shortage_back s = let a = kind_of_number s.kind in let b = layer_back s.layer in λ i. record { kind = a i; lacking = s.lacking; layer = b i }
 
 decode_code : (e : Refusal) → decode (code e) ≡ e
 decode_code SeatsWrong = refl

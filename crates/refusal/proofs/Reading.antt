@@ -1,10 +1,17 @@
--- Kinds by number and back, and values by kind after a write.
-use Rattle.std.proofs.Common.{◌≡◌, ◌⊎◌, refl, ap, inl, inr, arith}
+-- Seats and kinds by number, and values by kind after a write.
+use Rattle.std.proofs.Common.{◌≡◌, ◌<◌, ◌⊎◌, refl, ap, inl, inr, arith, lit<}
 use Rattle.refusal.specs.declared.kind.Kind.{Kind}
 use Rattle.refusal.specs.declared.kind.Kind.TheVariants.{Bit, Ring0, Ring1}
 use Rattle.refusal.specs.declared.per_kind.PerKind.{PerKind}
+use Rattle.refusal.specs.declared.seat.Seat.{Seat}
+use Rattle.refusal.specs.declared.seat.Seat.TheVariants.{Zero, One}
 use Rattle.refusal.specs.Kinds.{number, kind_of}
+use Rattle.refusal.specs.Seats.{number as seat_number}
 use Rattle.refusal.specs.PerKinds.{at, with_at}
+
+pub seat_low : (seat : Seat) → seat_number seat < 2
+seat_low Zero = lit< tt
+seat_low One = lit< tt
 
 pub kind_of_number : (k : Kind) → kind_of (number k) ≡ k
 kind_of_number Bit = refl

@@ -1,3 +1,4 @@
 pub mod Kinds
 pub mod PerKinds
 pub mod Refusals
+pub mod Seats

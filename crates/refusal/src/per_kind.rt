@@ -1,10 +1,10 @@
 // One value for each kind of correlation: counts, running numbers, positions.
-ghost use Rattle.std.specs.Prelude.{◌≡◌};
+ghost use Rattle.std.specs.Prelude.{◌≡◌, ◌-◌};
 ghost use Rattle.refusal.specs.PerKinds.{at, with_at};
 
 use crate::kind::Kind;
 
-#[derive(Clone, Copy)]
+#[derive(Clone, Copy, Debug, PartialEq, Eq, Hash)]
 pub struct PerKind<T> {
     pub bit: T,
     pub ring0: T,
@@ -31,5 +31,14 @@ impl<T: Copy> PerKind<T> {
             Kind::Ring0 => self.ring0 = value,
             Kind::Ring1 => self.ring1 = value,
         }
+    }
+}
+
+impl PerKind<u32> {
+    // Counts one less of a kind, down to 0.
+    pub fn lower(&mut self, kind: Kind)
+        ensures { self.new ≡ with_at kind (at self.old kind - 1) self.old }
+    {
+        self.put(kind, self.get(kind).saturating_sub(1));
     }
 }

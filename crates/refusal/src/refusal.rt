@@ -1,11 +1,12 @@
 // Why a call did not go ahead: one type for the whole engine.
-ghost use Rattle.std.specs.Prelude.{◌≡◌, take};
-ghost use Rattle.refusal.specs.Refusals.{code, layer_number, CodesTellApart};
+ghost use Rattle.std.specs.Prelude.{◌≡◌};
+ghost use Rattle.refusal.specs.Refusals.{code, layer_number, shortage_values, CodesTellApart};
 
 use crate::kind::Kind;
+use arrayvec::ArrayVec;
 
 // Which kind of source ran short.
-#[derive(Clone, Copy)]
+#[derive(Clone, Copy, Debug, PartialEq, Eq, Hash)]
 pub enum Layer {
     Sheet,
     Dealer,
@@ -13,14 +14,14 @@ pub enum Layer {
 }
 
 // A source has fewer halves of a kind than were asked for.
-#[derive(Clone, Copy)]
+#[derive(Clone, Copy, Debug, PartialEq, Eq, Hash)]
 pub struct Shortage {
     pub kind: Kind,
     pub lacking: u32,
     pub layer: Layer,
 }
 
-#[derive(Clone, Copy)]
+#[derive(Clone, Copy, Debug, PartialEq, Eq, Hash)]
 pub enum Refusal {
     // The two parties of a session are not at seats 0 and 1, in this order.
     SeatsWrong,
@@ -36,7 +37,7 @@ pub enum Refusal {
     WidthsDiffer,
     // A constant, a seat or a kind that there is not.
     BadArgument,
-    // A party cannot pay for a command.
+    // A party cannot pay for a command. The party is a number: a `Seat` would ask more of who makes one.
     CorrelationsShort { party: u8, shortage: Shortage },
     Short(Shortage),
     // The channel cannot carry a command's messages.
@@ -56,22 +57,24 @@ pub enum Refusal {
     BadSheet,
 }
 
-// What a refusal carries, in the order in which it is written: the first `count` of `words`.
-#[derive(Clone, Copy)]
-pub struct Values {
-    pub words: [u32; 4],
-    pub count: usize,
+impl From<Layer> for u8 {
+    ghost from_gives = { λ layer n. n ≡ layer_number layer };
+
+    fn from(layer: Layer) -> u8 {
+        layer as u8
+    }
 }
 
-impl Layer {
-    pub fn number(self) -> u8
-        ensures { result ≡ layer_number self }
+impl Shortage {
+    // What it says, in the order in which it is written; a refusal may say one value more.
+    fn values(self) -> ArrayVec<u32, 4>
+        ensures { result.items ≡ shortage_values self }
     {
-        match self {
-            Layer::Sheet => 0,
-            Layer::Dealer => 1,
-            Layer::Quota => 2,
-        }
+        let mut values = ArrayVec::new();
+        values.push(u32::from(u8::from(self.kind)));
+        values.push(self.lacking);
+        values.push(u32::from(u8::from(self.layer)));
+        values
     }
 }
 
@@ -103,53 +106,28 @@ impl Refusal {
         }
     }
 
-    // What it carries.
-    pub fn values(&self) -> Values
-        ensures { take result.count result.words ≡ (code self.now).values }
+    // What it carries, in the order in which it is written.
+    pub fn values(&self) -> ArrayVec<u32, 4>
+        ensures { result.items ≡ (code self.now).values }
     {
-        match self {
+        match *self {
             Refusal::CorrelationsShort { party, shortage } => {
-                let Shortage {
-                    kind,
-                    lacking,
-                    layer,
-                } = *shortage;
-                Values {
-                    words: [
-                        *party as u32,
-                        kind.number() as u32,
-                        lacking,
-                        layer.number() as u32,
-                    ],
-                    count: 4,
-                }
+                let mut values = shortage.values();
+                values.insert(0, u32::from(party));
+                values
             }
-            Refusal::Short(shortage) => {
-                let Shortage {
-                    kind,
-                    lacking,
-                    layer,
-                } = *shortage;
-                Values {
-                    words: [kind.number() as u32, lacking, layer.number() as u32, 0],
-                    count: 3,
-                }
+            Refusal::Short(shortage) => shortage.values(),
+            Refusal::BudgetShort { lacking } => {
+                let mut values = ArrayVec::new();
+                values.push(lacking);
+                values
             }
-            Refusal::BudgetShort { lacking } => Values {
-                words: [*lacking, 0, 0, 0],
-                count: 1,
-            },
-            _ => Values {
-                words: [0, 0, 0, 0],
-                count: 0,
-            },
+            _ => ArrayVec::new(),
         }
     }
 }
 
 // A refusal's number and values say which refusal it is, so a contract that gives them pins it.
-pub fn codes_tell_apart() -> u8
+pub fn codes_tell_apart()
     ensures { CodesTellApart }
-{
-    0
-}
+{}

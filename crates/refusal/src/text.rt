@@ -1,24 +1,34 @@
-// Refusals as programs print them: the number, and then the values.
+// What programs print: refusals by number and values, seats by number, kinds by name.
+use crate::kind::Kind;
 use crate::refusal::Refusal;
+use crate::seat::Seat;
 use std::error::Error;
 use std::fmt;
 
 impl fmt::Display for Refusal {
     fn fmt<W: fmt::Write>(&self, f: &mut fmt::Formatter<W>) -> fmt::Result {
-        let code = self.code();
-        write!(f, "refused {code}")?;
-        let values = self.values();
-        for v in values.words.iter().take(values.count) {
-            write!(f, " {v}")?;
+        write!(f, "refused {}", self.code())?;
+        for value in self.values().as_slice() {
+            write!(f, " {value}")?;
         }
         Ok(())
     }
 }
 
-impl fmt::Debug for Refusal {
+impl Error for Refusal {}
+
+impl fmt::Display for Seat {
     fn fmt<W: fmt::Write>(&self, f: &mut fmt::Formatter<W>) -> fmt::Result {
-        write!(f, "{self}")
+        write!(f, "{}", u8::from(*self))
     }
 }
 
-impl Error for Refusal {}
+impl fmt::Display for Kind {
+    fn fmt<W: fmt::Write>(&self, f: &mut fmt::Formatter<W>) -> fmt::Result {
+        f.write_str(match self {
+            Kind::Bit => "bit",
+            Kind::Ring0 => "ring-0",
+            Kind::Ring1 => "ring-1",
+        })
+    }
+}

@@ -1,12 +1,11 @@
 // Sheets worked out by hand, damaged sheets, and sheets written and read again.
 use dealer::dealer::deals::deal;
-use refusal::per_kind::PerKind;
-use refusal::refusal::Refusal;
 use sheet_writer::writer::write_sheet;
 use sheets::sheet::SheetSource;
 use sources::quota::Quota;
 use sources::source::Source;
 use std::test::Fail;
+use test_tools::{counts, drawn, told};
 
 // Seat 1 and one half of kind 0, with choice 2 and mask 3:
 //
@@ -23,69 +22,27 @@ const LARGE: [u8; 34] = [
     0x4b, 0xc3, 0xfe, 0x1e, 0x2d, 0x50, 0x3c, 0x6d, 0x2c, 0xe9, 0x17, 0x0b, 0xc5, 0x87, 0, 0, 0, 0,
 ];
 
-fn counts(bit: u32, ring0: u32, ring1: u32) -> PerKind<u32> {
-    PerKind { bit, ring0, ring1 }
-}
-
-// A refusal's number and what it carries; a call that went ahead has number 0.
-fn told<T: Drop>(r: Result<T, Refusal>) -> [u32; 4] {
-    match r {
-        Ok(_) => [0, 0, 0, 0],
-        Err(e) => {
-            let values = e.values();
-            [
-                u32::from(e.code()),
-                values.words[0],
-                values.words[1],
-                values.words[2],
-            ]
-        }
-    }
-}
-
-// Draws a half in front of 20 words that hold 9, and 99 in the first where it is refused.
-fn drawn<S: Source>(source: &mut S, kind: u8) -> [u32; 20] {
-    let mut words = [9u32; 20];
-    if source.draw(kind, &mut words).is_err() {
-        words[0] = 99;
-    }
-    words
-}
-
 // Two halves of kind 0, and one of each other kind.
 fn drawn_four<S: Source>(source: &mut S) -> [[u32; 20]; 4] {
-    [
-        drawn(source, 0),
-        drawn(source, 0),
-        drawn(source, 1),
-        drawn(source, 2),
-    ]
+    [0, 0, 1, 2].map(|kind| drawn(source, kind))
 }
 
-// The number with which bytes are refused as a sheet, or 0 where they are one.
+// The number with which bytes are refused as a sheet, as the rules list refusals, or 0 where they are one.
 fn opening(bytes: &[u8]) -> u8 {
-    match SheetSource::open(bytes) {
-        Ok(_) => 0,
-        Err(e) => e.code(),
-    }
+    SheetSource::open(bytes).err().map_or(0, |e| e.code())
 }
 
 // How many fronts of the bytes, of each length below the whole, are refused as sheets.
-fn refused_fronts(bytes: &[u8]) -> u32 {
-    let mut refused = 0u32;
-    for n in 0..bytes.len() {
-        if opening(&bytes[0..n]) == 19 {
-            refused = refused.saturating_add(1);
-        }
-    }
-    refused
+fn refused_fronts(bytes: &[u8]) -> usize {
+    (0..bytes.len())
+        .filter(|&n| opening(&bytes[..n]) == 19)
+        .count()
 }
 
 #[test]
 fn small_sheet_is_read(rt: HostRuntime) -> Result<(), Fail> {
-    let sheet = SMALL;
-    let mut source = SheetSource::open(&sheet)?;
-    assert_eq!(rt; source.seat(), 1);
+    let mut source = SheetSource::open(&SMALL)?;
+    assert_eq!(rt; u8::from(source.seat()), 1);
     let mut words = [9u32; 17];
     assert_eq!(rt; source.draw(0, &mut words)?, 2);
     assert_eq!(rt; [words[0], words[1], words[2]], [2, 3, 9]);
@@ -102,8 +59,7 @@ fn small_sheet_is_read(rt: HostRuntime) -> Result<(), Fail> {
 
 #[test]
 fn small_sheet_is_written(rt: HostRuntime) -> Result<(), Fail> {
-    let sheet = SMALL;
-    let mut source = SheetSource::open(&sheet)?;
+    let mut source = SheetSource::open(&SMALL)?;
     let mut bytes = [0xeeu8; 8];
     assert_eq!(rt; write_sheet(&mut source, &mut bytes)?, 6);
     assert_eq!(rt; bytes, [0x80, 0x04, 0x00, 0x00, 0x00, 0x2c, 0xee, 0xee]);
@@ -115,23 +71,19 @@ fn small_sheet_is_written(rt: HostRuntime) -> Result<(), Fail> {
 #[test]
 fn wrong_lengths_are_refused(rt: HostRuntime) {
     let small = [0x80, 0x04, 0x00, 0x00, 0x00, 0x2c, 0, 0, 0, 0, 0];
-    let large = LARGE;
-    assert_eq!(rt; [refused_fronts(&small), refused_fronts(&large)], [10, 33]);
-    assert_eq!(rt; [opening(&small[0..6]), opening(&large[0..30])], [0, 0]);
+    assert_eq!(rt; [refused_fronts(&small), refused_fronts(&LARGE)], [10, 33]);
+    assert_eq!(rt; [opening(&small[..6]), opening(&LARGE[..30])], [0, 0]);
 }
 
 // The last byte of the small sheet ends in two filling bits, so three fillings are wrong.
 #[test]
 fn wrong_fillings_are_refused(rt: HostRuntime) {
-    let mut refused = 0u32;
-    for filling in 1..4u8 {
+    let refused = (1..4).filter(|filling| {
         let mut sheet = SMALL;
-        sheet[5] = 0x2c | filling;
-        if opening(&sheet) == 19 {
-            refused = refused.saturating_add(1);
-        }
-    }
-    assert_eq!(rt; refused, 3);
+        sheet[5] |= filling;
+        opening(&sheet) == 19
+    });
+    assert_eq!(rt; refused.count(), 3);
 }
 
 // A count over 8191 comes before too few bytes, and neither refusal changes anything.
@@ -160,8 +112,7 @@ fn writer_refuses(rt: HostRuntime) -> Result<(), Fail> {
 // The quota's own shortages, and one of the sheet below, which has fewer halves than it allows.
 #[test]
 fn quota_over_a_sheet(rt: HostRuntime) -> Result<(), Fail> {
-    let large = LARGE;
-    let mut quota = Quota::new(SheetSource::open(&large[0..30])?, counts(0, 5, 1));
+    let mut quota = Quota::new(SheetSource::open(&LARGE[..30])?, counts(0, 5, 1));
     assert_eq!(rt;
         [
             told(quota.afford(0, 1)),

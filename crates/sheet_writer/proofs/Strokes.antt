@@ -1,11 +1,11 @@
 -- What strokes of a pen write: one bit, one stroke after another, a number, a row of fields, and the filling.
-use Rattle.std.proofs.Common.{◌≡◌, ℕ, zero, suc, ◌+◌, ◌-◌, ◌*◌, ◌/◌, ◌%◌, ◌^◌, ◌<◌, ◌≤◌, List, [], ◌∷◌, ◌++◌, length, get_or, take, drop, set, replicate, sym, refl, ap, ◌∙◌, ap₂, append_assoc, append-nil, pow-suc, add-one, arith, take-append-drop}
+use Rattle.std.proofs.Common.{◌≡◌, ℕ, zero, suc, ◌+◌, ◌-◌, ◌*◌, ◌/◌, ◌%◌, ◌^◌, ◌<◌, ◌≤◌, List, [], ◌∷◌, ◌++◌, length, get_or, take, drop, set, replicate, sym, refl, ap, ◌∙◌, subst, ap₂, append_assoc, append-nil, pow-suc, add-one, arith, take-append-drop, length-set}
 use native.Mathlib.Nat.{pow-succ', div-div-eq-div-mul, zero-div}
 use Rattle.std.proofs.lemmas.List.{length-append, length-take-le, take_more, take_more_set, drop-drop, drop-set-lt}
 use Rattle.sheet_writer.specs.declared.pen.Pen.{Pen}
 use Rattle.sheets.specs.Bits.{bits, bits_of}
 use Rattle.sheets.specs.Layout.{row_bits}
-use Rattle.sheet_writer.specs.Pens.{written, place, Pushed, Finished}
+use Rattle.sheet_writer.specs.Pens.{written, Pushed, Finished}
 use Rattle.sheets.proofs.Reading.{length_bits}
 
 -- the last bit of a number, and those before it
@@ -37,61 +37,62 @@ bits_of_append : (xs ys : List ℕ) → bits_of (xs ++ ys) ≡ bits_of xs ++ bit
 bits_of_append [] ys = refl
 bits_of_append (x ∷ xs) ys = ap (λ bs. bits 8 x ++ bs) (bits_of_append xs ys) ∙ sym (append_assoc (bits 8 x) (bits_of xs) (bits_of ys))
 
--- a bit more fits one bit more
-pub low_more : (n x b : ℕ) → x < 2 ^ n → b < 2 → 2 * x + b < 2 ^ (n + 1)
-low_more n x b h l = let e : 2 ^ (n + 1) ≡ 2 ^ n * 2 = ap (λ m. 2 ^ m) (add-one n) ∙ pow-suc 2 n in omega arith
-
 -- one bit is written: into the byte that is held, or as its last
-pub pushed_held : (p q : Pen) (xs : List ℕ) (b : ℕ) → b < 2 → q.at ≡ p.at → q.filled ≡ p.filled + 1 → q.current ≡ 2 * p.current + b → Pushed p q xs xs (b ∷ [])
-pushed_held p q xs b h a f c = record {
+pub pushed_held : (p q : Pen) (b : ℕ) → b < 2 → q.bytes.now ≡ p.bytes.now → q.at ≡ p.at → q.filled ≡ p.filled + 1 → q.current ≡ 2 * p.current + b → q.bytes.ghost_name ≡ p.bytes.ghost_name → Pushed p q (b ∷ [])
+pushed_held p q b h e a f c r = record {
   adds =
-      ap₂ (λ n bs. bits_of (take n xs) ++ bs) a (ap₂ bits f c ∙ bits_more p.filled p.current b h)
-      ∙ sym (append_assoc (bits_of (take p.at xs)) (bits p.filled p.current) (b ∷ []));
+      ap₂ (λ (xs ys : List ℕ). xs ++ ys) (ap₂ (λ n xs. bits_of (take n xs)) a e) (ap₂ bits f c ∙ bits_more p.filled p.current b h)
+      ∙ sym (append_assoc (bits_of (take p.at p.bytes.now)) (bits p.filled p.current) (b ∷ []));
   on = omega arith;
-  past = refl;
+  past = ap (drop q.at) e;
+  same_length = ap length e;
+  same_reference = r;
 }
 
-pub pushed_whole : (p q : Pen) (xs : List ℕ) (b : ℕ) → b < 2 → p.at < length xs → p.filled ≡ 7 → q.at ≡ p.at + 1 → q.filled ≡ 0
-    → Pushed p q xs (set xs p.at (2 * p.current + b)) (b ∷ [])
-pushed_whole p q xs b h l s a f =
+pub pushed_whole : (p q : Pen) (b : ℕ) → b < 2 → p.at < length p.bytes.now → p.filled ≡ 7 → q.bytes.now ≡ set p.bytes.now p.at (2 * p.current + b) → q.at ≡ p.at + 1 → q.filled ≡ 0 → q.bytes.ghost_name ≡ p.bytes.ghost_name
+    → Pushed p q (b ∷ [])
+pushed_whole p q b h l s e a f r =
+    let xs = p.bytes.now in
     let x = 2 * p.current + b in
     let front = bits_of (take p.at xs) in
     let whole : bits 8 x ++ [] ≡ bits p.filled p.current ++ (b ∷ []) =
     append-nil (bits 8 x) ∙ bits_more 7 p.current b h ∙ ap (λ n. bits n p.current ++ (b ∷ [])) (sym s) in
     record {
       adds =
-          ap₂ (λ n m. bits_of (take n (set xs p.at x)) ++ bits m q.current) a f
+          ap₂ (λ (ys zs : List ℕ). ys ++ zs) (ap₂ (λ n ys. bits_of (take n ys)) a e) (ap (λ m. bits m q.current) f)
           ∙ append-nil (bits_of (take (p.at + 1) (set xs p.at x)))
           ∙ ap bits_of (take_more_set xs p.at x l)
           ∙ bits_of_append (take p.at xs) (x ∷ [])
           ∙ ap (λ bs. front ++ bs) whole
           ∙ sym (append_assoc front (bits p.filled p.current) (b ∷ []));
       on = omega arith;
-      past = drop-set-lt q.at xs p.at x (omega arith);
+      past = ap (drop q.at) e ∙ drop-set-lt q.at xs p.at x (omega arith);
+      same_length = ap length e ∙ length-set xs p.at x;
+      same_reference = r;
     }
 
--- no stroke, and a stroke after another
-pub pushed_none : (p : Pen) (xs : List ℕ) → Pushed p p xs xs []
-pushed_none p xs = record { adds = sym (append-nil (written p xs)); on = omega arith; past = refl }
-
+-- what lists share from n on, they share from m on
 pub drop_on : (m n : ℕ) (xs ys : List ℕ) → n ≤ m → drop n ys ≡ drop n xs → drop m ys ≡ drop m xs
 drop_on m n xs ys h e =
     let k : m ≡ n + (m - n) = omega arith in
     ap (λ z. drop z ys) k ∙ sym (drop-drop (m - n) n ys) ∙ ap (drop (m - n)) e ∙ drop-drop (m - n) n xs ∙ ap (λ z. drop z xs) (sym k)
 
-pub pushed_then : (p q r : Pen) (xs ys zs us vs : List ℕ) → Pushed p q xs ys us → Pushed q r ys zs vs → Pushed p r xs zs (us ++ vs)
-pushed_then p q r xs ys zs us vs s t =
+-- a stroke after another
+pub pushed_then : {p q r : Pen} {us vs : List ℕ} → Pushed p q us → Pushed q r vs → Pushed p r (us ++ vs)
+pushed_then {p} {q} {r} {us} {vs} s t =
     let long = length-append us vs in
     let on : q.at ≤ r.at = omega arith in
     record {
-      adds = t.adds ∙ ap (λ bs. bs ++ vs) s.adds ∙ append_assoc (written p xs) us vs;
+      adds = t.adds ∙ ap (λ bs. bs ++ vs) s.adds ∙ append_assoc (written p) us vs;
       on = omega arith;
-      past = t.past ∙ drop_on r.at q.at xs ys on s.past;
+      past = t.past ∙ drop_on r.at q.at p.bytes.now q.bytes.now on s.past;
+      same_length = t.same_length ∙ s.same_length;
+      same_reference = t.same_reference ∙ s.same_reference;
     }
 
 -- the same stroke with its bits said otherwise
-pub pushed_as : (p q : Pen) (xs ys us vs : List ℕ) → us ≡ vs → Pushed p q xs ys us → Pushed p q xs ys vs
-pushed_as p q xs ys us vs e s = record { adds = s.adds ∙ ap (λ bs. written p xs ++ bs) e; on = s.on ∙ ap (λ bs. place p + length bs) e; past = s.past }
+pub pushed_as : {p q : Pen} {us vs : List ℕ} → us ≡ vs → Pushed p q us → Pushed p q vs
+pushed_as {p} {q} e s = subst (Pushed p q) e s
 
 -- a row of fields, one field more, for which there is room
 row_bits_append : (f : ℕ → ℕ) (i : ℕ) (xs ys : List ℕ) → row_bits f i (xs ++ ys) ≡ row_bits f i xs ++ row_bits f (i + length xs) ys
@@ -120,17 +121,20 @@ row_room f i xs h =
     omega (arith, row_front f (i + 1) xs, length-append (row_bits f 0 (take i xs)) (bits (f i) (get_or xs i 0)), length_bits (f i) (get_or xs i 0))
 
 -- zero bits up to a whole byte
-pub finished : (p q : Pen) (xs ys : List ℕ) → Pushed p q xs ys (bits ((8 - p.filled) % 8) 0) → Finished p q.at xs ys
-finished p q xs ys s =
+pub finished : {p q : Pen} → Pushed p q (bits ((8 - p.filled) % 8) 0) → Finished p q q.at
+finished {p} {q} s =
     let n = (8 - p.filled) % 8 in
     let long = length_bits n 0 in
+    let ys = q.bytes.now in
     let none : q.filled ≡ 0 = omega arith in
     record {
       filling = n;
       few = omega arith;
       holds =
           sym (append-nil (bits_of (take q.at ys))) ∙ ap (λ m. bits_of (take q.at ys) ++ bits m q.current) (sym none)
-          ∙ s.adds ∙ ap (λ bs. written p xs ++ bs) (bits_zero n);
+          ∙ s.adds ∙ ap (λ bs. written p ++ bs) (bits_zero n);
       long = omega arith;
       past = s.past;
+      same_length = s.same_length;
+      same_reference = s.same_reference;
     }

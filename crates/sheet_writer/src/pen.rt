@@ -1,11 +1,12 @@
-// A pen: how far a sheet is written.
+// A pen: the bytes that it writes into, and how far a sheet is written.
 ghost use Rattle.std.specs.Prelude.{◌^◌, ◌<◌};
 
-pub mod strokes;
+mod strokes;
 
-// So many whole bytes stand written, and so many bits of the next one are held in `current`.
-#[derive(Clone, Copy)]
-pub(crate) struct Pen {
+// `at` whole bytes stand written, and `filled` bits of the next one are held in `current`.
+#[derive(Drop)]
+pub(crate) struct Pen<'a> {
+    bytes: &'a mut [u8],
     at: usize,
     filled: u32,
     current: u32,

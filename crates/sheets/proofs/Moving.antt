@@ -1,14 +1,14 @@
 -- What is left of a sheet, one half on.
-use Rattle.std.proofs.Common.{◌≡◌, ℕ, zero, suc, ◌+◌, ◌-◌, ◌/◌, ◌<◌, ◌≤◌, List, ◌∷◌, length, take, drop, sym, refl, ap, ◌∙◌, ap₂, arith}
+use Rattle.std.proofs.Common.{◌≡◌, ℕ, zero, suc, ◌+◌, ◌-◌, ◌/◌, ◌<◌, ◌≤◌, List, ◌∷◌, length, sym, refl, ap, ◌∙◌, ap₂, arith}
 use native.Mathlib.Nat.{add-div_right, div-eq_of_lt}
 use native.Mathlib.Decide.{dec_lt}
 use Rattle.refusal.specs.declared.kind.Kind.{Kind}
 use Rattle.refusal.specs.declared.per_kind.PerKind.{PerKind}
-use Rattle.refusal.specs.Kinds.{kind_of}
 use Rattle.refusal.specs.PerKinds.{at, with_at}
 use Rattle.refusal.proofs.Reading.{at_with_same, at_with_other}
 use Rattle.sources.specs.Halves.{Halves, width}
-use Rattle.sources.specs.Calls.{Drew}
+use Rattle.sources.specs.Calls.{Took}
+use Rattle.sheets.specs.Ranges.{row_long}
 use Rattle.sheets.specs.Layout.{field_size, half_size, row_at, halves_at}
 
 pub length_halves : (bs : List ℕ) (seat : ℕ) (k : Kind) (n p : ℕ) → length (halves_at bs seat k n p) ≡ n
@@ -36,32 +36,27 @@ one_fewer a s pos h =
     let q : a / s ≡ (a - s) / s + 1 = ap (λ x. x / s) e ∙ add-div_right (a - s) pos in
     omega arith
 
--- one half of a kind drawn: what a sheet stands for before and after
-module _ (bs : List ℕ) (seat kind : ℕ) (marks ends : PerKind ℕ) where
-  abbrev k : Kind
-  k = kind_of kind
-
+-- one half of a kind taken: what a sheet stands for before and after
+module _ (bs : List ℕ) (seat : ℕ) (k : Kind) (marks ends : PerKind ℕ) where
   abbrev left_at : PerKind ℕ → Halves
   left_at ms j = halves_at bs seat j ((at ends j - at ms j) / half_size seat j) (at ms j)
 
-  pub sheet_drew : (marks' : PerKind ℕ) (ws ws' : List ℕ) (n : ℕ) → kind < 3 → 17 ≤ length ws → 0 < half_size seat k → 0 < (at ends k - at marks k) / half_size seat k
-      → marks' ≡ with_at k (at marks k + half_size seat k) marks
-      → n ≡ width seat k → take n ws' ≡ row_at bs (field_size seat k) (at marks k) 0 (width seat k) → drop n ws' ≡ drop n ws
-      → Drew seat (left_at marks) (left_at marks') kind ws ws' n
-  sheet_drew marks' ws ws' n known room pos some moved long front past = record {
-    known = known;
-    room = room;
-    long = long;
+  abbrev marks' : PerKind ℕ
+  marks' = with_at k (at marks k + half_size seat k) marks
+
+  mark_is : at marks' k ≡ at marks k + half_size seat k
+  mark_is = at_with_same k (at marks k + half_size seat k) marks
+
+  pub sheet_took : 0 < half_size seat k → 0 < (at ends k - at marks k) / half_size seat k
+      → Took seat (left_at marks) (left_at marks') k (row_at bs (field_size seat k) (at marks k) 0 (width seat k))
+  sheet_took pos some = record {
+    long = row_long bs (field_size seat k) (at marks k) 0 (width seat k);
     first =
         halves_first bs seat k ((at ends k - at marks k) / half_size seat k) (at marks k) some
-        ∙ ap₂ (λ h t. h ∷ t) (sym front) (sym (ap₂ (halves_at bs seat k) have_is mark_is));
-    past = past;
-    others = λ j ne. ap (λ m. halves_at bs seat j ((at ends j - m) / half_size seat j) m) (ap (λ p. at p j) moved ∙ at_with_other k j (at marks k + half_size seat k) marks ne);
+        ∙ ap (λ t. row_at bs (field_size seat k) (at marks k) 0 (width seat k) ∷ t) (sym (ap₂ (halves_at bs seat k) have_is mark_is));
+    others = λ j ne. ap (λ m. halves_at bs seat j ((at ends j - m) / half_size seat j) m) (at_with_other k j (at marks k + half_size seat k) marks ne);
   }
     where
-      mark_is : at marks' k ≡ at marks k + half_size seat k
-      mark_is = ap (λ p. at p k) moved ∙ at_with_same k (at marks k + half_size seat k) marks
-
       have_is : (at ends k - at marks' k) / half_size seat k ≡ (at ends k - at marks k) / half_size seat k - 1
       have_is =
           let e : at ends k - at marks' k ≡ at ends k - at marks k - half_size seat k = let m = mark_is in omega arith in

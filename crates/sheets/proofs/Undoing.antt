@@ -1,14 +1,14 @@
 -- Reading a sheet gives back what was written: rows of fields, lists of halves, the header, and the whole.
-use Rattle.std.proofs.Common.{◌≡◌, ℕ, zero, suc, ◌+◌, ◌-◌, ◌*◌, ◌/◌, ◌^◌, ◌<◌, ◌≤◌, Bool, true, false, cond, ◌&&◌, eqb, List, [], ◌∷◌, ◌++◌, length, get_or, replicate, Some, None, MatchBool, sym, refl, ap, ◌∙◌, subst, ap₂, inl, inr, append_assoc, arith}
+use Rattle.std.proofs.Common.{◌≡◌, ℕ, zero, suc, ◌+◌, ◌-◌, ◌*◌, ◌/◌, ◌^◌, ◌<◌, ◌≤◌, Bool, true, false, if◌then◌else◌, ◌&&◌, ◌==◌, List, [], ◌∷◌, ◌++◌, length, get_or, replicate, Some, None, MatchBool, sym, refl, ap, ◌∙◌, subst, ap₂, inl, inr, append_assoc, arith}
 use Rattle.std.specs.List.{AllByRecursion}
 use Rattle.std.proofs.lemmas.List.{length-append, length-replicate, get_or-take}
 use Rattle.std.proofs.lemmas.Bool.{eq-eqb, cases_lt}
 use Rattle.refusal.specs.declared.kind.Kind.{Kind}
 use Rattle.refusal.specs.declared.kind.Kind.TheVariants.{Bit, Ring0, Ring1}
-use Rattle.refusal.specs.Kinds.{entries}
+use Rattle.refusal.specs.Kinds.{entries, mask_size, choice_size}
 use Rattle.sources.specs.Halves.{Half, Halves, InRange, SenderInRange, ReceiverInRange, operation, sends, width}
 use Rattle.sheets.specs.Bits.{bits, bits_of, read}
-use Rattle.sheets.specs.Layout.{mask_size, choice_size, field_size, half_size, row_bits, list_bits, encode, row_at, halves_at, seat_of, count_of, span_of, begin_of, end_of, whole, decode}
+use Rattle.sheets.specs.Layout.{field_size, half_size, row_bits, list_bits, encode, row_at, halves_at, seat_of, count_of, span_of, begin_of, end_of, whole, decode}
 use Rattle.sheets.specs.Places.{bits_of_long}
 use Rattle.sheets.specs.Ranges.{mask_limit, choice_limit}
 use Rattle.sheets.specs.Theorems.{Sheetable, IsSheet, DecodeUndoesEncode}
@@ -42,13 +42,13 @@ length_row m i (x ∷ xs) =
 
 -- the size of fields, by whether the seat sends
 abbrev sizes : Bool → Kind → ℕ → ℕ
-sizes b k i = cond b (mask_size k) (cond (eqb i 0) (choice_size k) (mask_size k))
+sizes b k i = if b then mask_size k else if i == 0 then choice_size k else mask_size k
 
 -- what the range of a half says of its row
 record RowFits (b : Bool) (k : Kind) (h : Half) : Type 0 where
-  wide : length h ≡ cond b (entries k + 1) 2
+  wide : length h ≡ (if b then entries k + 1 else 2)
   room : RowIn (sizes b k) 0 h
-  long : length (row_bits (sizes b k) 0 h) ≡ cond b ((entries k + 1) * mask_size k) (choice_size k + mask_size k)
+  long : length (row_bits (sizes b k) 0 h) ≡ (if b then (entries k + 1) * mask_size k else choice_size k + mask_size k)
 
 sender_room : (k : Kind) (h : Half) → SenderInRange k h → (j : ℕ) → j < length h → get_or h j 0 < (operation k).size
 sender_room k h r j l =
@@ -216,7 +216,7 @@ module _ (seat : ℕ) (g : Halves) (bytes : List ℕ) (fit : Sheetable seat g) (
   decoded : decode bytes ≡ Some (record { seat = seat; left = g })
   unfolding decode
   decoded =
-      ap (λ b. cond b (Some (record { seat = seat_of bs; left = λ k. halves_at bs (seat_of bs) k (count_of bs k) (begin_of bs k) })) None) whole_is
+      ap (λ b. if b then Some (record { seat = seat_of bs; left = λ k. halves_at bs (seat_of bs) k (count_of bs k) (begin_of bs k) }) else None) whole_is
       ∙ (λ i. Some (record { seat = seat_is i; left = λ k. left_is k i }))
 
 pub decode_undoes_encode : DecodeUndoesEncode

@@ -1,29 +1,18 @@
 -- The layout of a deal sheet, as a list of bits: written by `encode`, and read by `decode`.
-use Rattle.std.specs.Prelude.{ℕ, zero, suc, ◌+◌, ◌-◌, ◌*◌, ◌/◌, Bool, cond, ◌&&◌, List, [], ◌∷◌, ◌++◌, length, Some, None, Option, ◌==◌}
+use Rattle.std.specs.Prelude.{ℕ, zero, suc, ◌+◌, ◌-◌, ◌*◌, ◌/◌, Bool, ◌&&◌, List, [], ◌∷◌, ◌++◌, length, Some, None, Option, if◌then◌else◌, ◌==◌}
 use Rattle.refusal.specs.declared.kind.Kind.{Kind}
 use Rattle.refusal.specs.declared.kind.Kind.TheVariants.{Bit, Ring0, Ring1}
-use Rattle.refusal.specs.Kinds.{number, entries}
+use Rattle.refusal.specs.Kinds.{number, entries, mask_size, choice_size}
 use Rattle.sources.specs.Halves.{Half, Halves, sends, width}
 use Rattle.sheets.specs.Bits.{bits, bits_of, read}
 
--- how many bits a mask or a blind has, and a choice
-abbrev pub mask_size : Kind → ℕ
-mask_size Bit = 2
-mask_size Ring0 = 32
-mask_size Ring1 = 32
-
-abbrev pub choice_size : Kind → ℕ
-choice_size Bit = 4
-choice_size Ring0 = 2
-choice_size Ring1 = 2
-
 -- how many bits field i of a half has: a receiver's first is its choice
 abbrev pub field_size : ℕ → Kind → ℕ → ℕ
-field_size seat k i = cond (sends seat k) (mask_size k) (cond (i == 0) (choice_size k) (mask_size k))
+field_size seat k i = if sends seat k then mask_size k else if i == 0 then choice_size k else mask_size k
 
 -- how many bits a half has
 abbrev pub half_size : ℕ → Kind → ℕ
-half_size seat k = cond (sends seat k) ((entries k + 1) * mask_size k) (choice_size k + mask_size k)
+half_size seat k = if sends seat k then (entries k + 1) * mask_size k else choice_size k + mask_size k
 
 -- the bits of a row of fields, the first of which is field i, and of a list of halves
 abbrev pub row_bits : (ℕ → ℕ) → ℕ → List ℕ → List ℕ
@@ -84,4 +73,4 @@ whole bytes = whole_at bytes (end_of (bits_of bytes))
 unfoldable pub decode : List ℕ → Option Sheet
 decode bytes =
     let bs = bits_of bytes in
-    cond (whole bytes) (Some (record { seat = seat_of bs; left = λ k. halves_at bs (seat_of bs) k (count_of bs k) (begin_of bs k) })) None
+    if whole bytes then Some (record { seat = seat_of bs; left = λ k. halves_at bs (seat_of bs) k (count_of bs k) (begin_of bs k) }) else None

@@ -1,17 +1,17 @@
 -- Every field that is read from a sheet is in range: what a sheet shows as a source.
-use Rattle.std.specs.Prelude.{◌≡◌, ℕ, zero, suc, ◌+◌, ◌-◌, ◌^◌, ◌<◌, Bool, true, false, cond, List, length, MatchBool, ◌==◌, slice_index, refl}
+use Rattle.std.specs.Prelude.{◌≡◌, ℕ, zero, suc, ◌+◌, ◌-◌, ◌^◌, ◌<◌, Bool, true, false, if◌then◌else◌, List, length, MatchBool, ◌==◌, slice_index, refl}
 use Rattle.std.proofs.Common.{sym, ap, subst, ◌∙◌, arith}
 use Rattle.std.specs.List.{AllByRecursion}
 use Rattle.std.proofs.lemmas.List.{length-take-le, get_or-take}
 use Rattle.refusal.specs.declared.kind.Kind.{Kind}
 use Rattle.refusal.specs.declared.kind.Kind.TheVariants.{Bit, Ring0, Ring1}
-use Rattle.refusal.specs.Kinds.{entries}
+use Rattle.refusal.specs.Kinds.{entries, mask_size, choice_size}
 use Rattle.sources.specs.Halves.{Half, operation, sends, SenderInRange, ReceiverInRange, InRange}
 use Rattle.sheets.specs.Bits.{bits_of, read}
-use Rattle.sheets.specs.Layout.{mask_size, choice_size, half_size, row_at, halves_at}
+use Rattle.sheets.specs.Layout.{half_size, row_at, halves_at}
 use Rattle.sheets.specs.Places.{read_low}
 
-row_long : (bs : List ℕ) (size : ℕ → ℕ) (p i n : ℕ) → length (row_at bs size p i n) ≡ n
+pub row_long : (bs : List ℕ) (size : ℕ → ℕ) (p i n : ℕ) → length (row_at bs size p i n) ≡ n
 row_long bs size p i zero = refl
 row_long bs size p i (suc n) = ap suc (row_long bs size (p + size i) (i + 1) n)
 
@@ -40,7 +40,7 @@ module _ (sheet : List ℕ) (k : Kind) where
 
   -- a row by the role of its seat
   abbrev row : Bool → ℕ → Half
-  row b p = row_at (bits_of sheet) (λ i. cond b (mask_size k) (cond (i == 0) (choice_size k) (mask_size k))) p 0 (cond b (entries k + 1) 2)
+  row b p = row_at (bits_of sheet) (λ i. if b then mask_size k else if i == 0 then choice_size k else mask_size k) p 0 (if b then entries k + 1 else 2)
 
   sender_row : (p : ℕ) → SenderInRange k (row true p)
   sender_row p =

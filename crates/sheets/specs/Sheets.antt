@@ -1,16 +1,17 @@
 -- What a sheet source stands for, and what opening a sheet gives.
-use Rattle.std.specs.Prelude.{◌≡◌, ℕ, ◌-◌, ◌/◌, cond, List, Some, None}
+use Rattle.std.specs.Prelude.{◌≡◌, ℕ, ◌-◌, ◌/◌, List, Some, None}
 use Rattle.refusal.specs.declared.kind.Kind.{Kind}
 use Rattle.refusal.specs.declared.refusal.Refusal.{Refusal}
 use Rattle.refusal.specs.PerKinds.{at}
 use Rattle.refusal.specs.Refusals.{code, plain}
+use Rattle.refusal.specs.Seats.{number as seat_number}
 use Rattle.sources.specs.Halves.{Halves}
 use Rattle.sheets.specs.declared.sheet.SheetSource.{SheetSource}
 use Rattle.sheets.specs.Bits.{bits_of}
 use Rattle.sheets.specs.Layout.{half_size, halves_at, decode}
 
 abbrev pub sheet_owner : SheetSource → ℕ
-sheet_owner s = cond s.second 1 0
+sheet_owner s = seat_number s.seat
 
 -- how many halves of a kind lie between its mark and its end
 abbrev pub sheet_have : SheetSource → Kind → ℕ

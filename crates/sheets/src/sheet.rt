@@ -2,7 +2,9 @@
 ghost use Rattle.std.specs.Prelude.{◌≡◌, ◌+◌, ◌-◌, ◌*◌, ◌/◌, ◌^◌, ◌<◌, ◌≤◌, MatchResult};
 ghost use Rattle.refusal.specs.declared.refusal.Layer.TheVariants.{Sheet as SheetLayer};
 ghost use Rattle.refusal.specs.PerKinds.{at, with_at};
-ghost use Rattle.sheets.specs.Layout.{half_size, whole_at};
+ghost use Rattle.refusal.specs.Seats.{number};
+ghost use Rattle.sheets.specs.Bits.{bits_of};
+ghost use Rattle.sheets.specs.Layout.{half_size, seat_of as seat_at, whole_at};
 ghost use Rattle.sheets.specs.Ranges.{halves_in_range};
 ghost use Rattle.sheets.specs.Sheets.{sheet_owner, sheet_have, sheet_left, Opened, NotASheet};
 
@@ -10,27 +12,41 @@ use crate::layout::{half_size, read, read_half};
 use refusal::kind::Kind;
 use refusal::per_kind::PerKind;
 use refusal::refusal::{Layer, Refusal};
-use sources::source::{Source, enough, width};
+use refusal::seat::Seat;
+use sources::source::{Half, Source, enough};
 
-// Of each kind, the bit at which the next half begins, and the bit at which the last one ends.
+// Of each kind, the bit at which the next half begins, and the bit at which the last one ends. They stand
+// apart: a source is three positions, which move, and the ends of their kinds, which do not.
 #[derive(Drop)]
 pub struct SheetSource<'a> {
     sheet: &'a [u8],
-    second: bool,
+    seat: Seat,
     marks: PerKind<u32>,
     ends: PerKind<u32>,
 }
 
+// The seat whose sheet it is: the first bit.
+fn seat_of(sheet: &[u8]) -> Seat
+    ensures { number result ≡ seat_at (bits_of sheet.now) }
+{
+    if read(sheet, 0, 1) == 0 {
+        Seat::Zero
+    } else {
+        Seat::One
+    }
+}
+
 // How many bits a number of halves have.
-fn span(seat: u8, kind: Kind, count: u32) -> u32
+fn span(seat: Seat, kind: Kind, count: u32) -> u32
     requires { count < 2 ^ 13 }
-    ensures is { result ≡ count * half_size seat kind }
+    ensures is { result ≡ count * half_size (number seat) kind }
     ensures few { result ≤ 1310720 }
 {
-    count * half_size(seat, kind)
+    count * half_size(u8::from(seat), kind)
 }
 
 // Where a half that begins at the mark ends, if one fits before the end.
+#[tactic(auto, using(crate::proofs::Moving::one_fits))]
 fn after(mark: u32, end: u32, size: u32) -> u32
     requires { 0 < (end - mark) / size }
     ensures { result ≡ mark + size }
@@ -43,7 +59,7 @@ fn is_whole(sheet: &[u8], end: u32) -> bool
     ensures { result ≡ whole_at sheet.now end }
 {
     let bits = end as usize;
-    if sheet.len() != (bits + 7) / 8 {
+    if sheet.len() != bits.div_ceil(8) {
         return false;
     }
     read(sheet, bits, (8 * sheet.len() - bits) as u32) == 0
@@ -54,7 +70,7 @@ impl<'a> SheetSource<'a> {
     pub fn open(sheet: &'a [u8]) -> Result<SheetSource<'a>, Refusal>
         ensures { MatchResult result (Opened sheet.now) (NotASheet sheet.now) }
     {
-        let seat = read(sheet, 0, 1) as u8;
+        let seat = seat_of(sheet);
         let first = 40 + span(seat, Kind::Bit, read(sheet, 1, 13));
         let second = first + span(seat, Kind::Ring0, read(sheet, 14, 13));
         let third = second + span(seat, Kind::Ring1, read(sheet, 27, 13));
@@ -73,18 +89,19 @@ impl<'a> SheetSource<'a> {
         };
         Ok(SheetSource {
             sheet,
-            second: seat == 1,
+            seat,
             marks,
             ends,
         })
     }
 
-    // The seat whose sheet it is.
-    fn owner(&self) -> u8
-        ensures is { result ≡ sheet_owner self.now }
-        ensures low { result < 2 }
+    // How many bits a half of a kind has.
+    fn size(&self, kind: Kind) -> u32
+        ensures is { result ≡ half_size (sheet_owner self.now) kind }
+        ensures some { 0 < result }
+        ensures most { result ≤ 160 }
     {
-        if self.second { 1 } else { 0 }
+        half_size(u8::from(self.seat), kind)
     }
 
     // How many halves of a kind are left.
@@ -92,15 +109,15 @@ impl<'a> SheetSource<'a> {
         ensures { result ≡ sheet_have self.now kind }
     {
         let left = self.ends.get(kind).saturating_sub(self.marks.get(kind));
-        left / half_size(self.owner(), kind)
+        left / self.size(kind)
     }
 
     // The next half of a kind begins where this one ends.
     fn move_on(&mut self, kind: Kind)
         requires { 0 < sheet_have self.old kind }
-        ensures { self.new ≡ record { sheet = self.old.sheet; second = self.old.second; marks = with_at kind (at self.old.marks kind + half_size (sheet_owner self.old) kind) self.old.marks; ends = self.old.ends } }
+        ensures { self.new ≡ record self.old { marks = with_at kind (at self.old.marks kind + half_size (sheet_owner self.old) kind) self.old.marks } }
     {
-        let size = half_size(self.owner(), kind);
+        let size = self.size(kind);
         let mark = after(self.marks.get(kind), self.ends.get(kind), size);
         self.marks.put(kind, mark);
     }
@@ -115,30 +132,19 @@ impl<'a> Source for SheetSource<'a> {
 
     ghost ranges = { λ s k. halves_in_range s.sheet.now (sheet_owner s) k (sheet_have s k) (at s.marks k) };
 
-    fn seat(&self) -> u8 {
-        self.owner()
+    fn seat(&self) -> Seat {
+        self.seat
     }
 
-    fn afford(&self, kind: u8, count: u32) -> Result<(), Refusal> {
-        let Some(k) = Kind::from_number(kind) else {
-            return Err(Refusal::BadArgument);
-        };
-        enough(k, self.have(k), count, Layer::Sheet)
+    #[tactic(auto, using(crate::proofs::Moving::length_halves))]
+    fn check(&self, kind: Kind, count: u32) -> Result<(), Refusal> {
+        enough(kind, self.have(kind), count, Layer::Sheet)
     }
 
-    fn draw(&mut self, kind: u8, words: &mut [u32]) -> Result<usize, Refusal> {
-        let Some(k) = Kind::from_number(kind) else {
-            return Err(Refusal::BadArgument);
-        };
-        if words.len() < 17 {
-            return Err(Refusal::PlaceTooShort);
-        }
-        if let Err(e) = enough(k, self.have(k), 1, Layer::Sheet) {
-            return Err(e);
-        }
-        let seat = self.owner();
-        read_half(self.sheet, seat, k, self.marks.get(k), words);
-        self.move_on(k);
-        Ok(width(seat, k))
+    fn take(&mut self, kind: Kind) -> Result<Half, Refusal> {
+        self.check(kind, 1)?;
+        let half = read_half(self.sheet, self.seat, kind, self.marks.get(kind));
+        self.move_on(kind);
+        Ok(half)
     }
 }

@@ -5,7 +5,28 @@ use Rattle.refusal.specs.declared.refusal.Layer.{Layer}
 use Rattle.refusal.specs.declared.refusal.Refusal.{Refusal}
 use Rattle.refusal.specs.Kinds.{kind_of}
 use Rattle.refusal.specs.Refusals.{code, plain, short}
-use Rattle.sources.specs.Halves.{Halves, width}
+use Rattle.arrayvec.specs.ArrayVec.{ArrayVec}
+use Rattle.sources.specs.Halves.{Half, Halves, width}
+
+-- `check` accepts, or gives the shortage
+abbrev pub Checks : Halves → (Kind → Layer) → Kind → ℕ → Result (Unit {0}) Refusal → Type 0
+Checks left layer k count r =
+    MatchResult r (λ _. count ≤ length (left k)) (λ e. (length (left k) < count) × (code e ≡ short k (count - length (left k)) (layer k)))
+
+-- `take` answers a half: it was the first of its kind, and is off the list
+pub record Took (seat : ℕ) (left left' : Halves) (k : Kind) (half : Half) : Type 0 where
+  pub long : length half ≡ width seat k
+  pub first : left k ≡ half ∷ left' k
+  pub others : (j : Kind) → (j ≢ k) → left' j ≡ left j
+
+-- `take` refuses with e, and nothing changes
+pub record IsOut (left left' : Halves) (layer : Kind → Layer) (k : Kind) (e : Refusal) : Type 0 where
+  pub empty : left k ≡ []
+  pub says : code e ≡ short k 1 (layer k)
+  pub same : left' ≡ left
+
+abbrev pub Takes : ℕ → Halves → Halves → (Kind → Layer) → Kind → Result (ArrayVec ℕ) Refusal → Type 0
+Takes seat left left' layer k r = MatchResult r (λ half. Took seat left left' k half.items) (IsOut left left' layer k)
 
 -- `afford` accepts
 pub record Enough (left : Halves) (kind count : ℕ) : Type 0 where

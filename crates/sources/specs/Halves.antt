@@ -1,5 +1,5 @@
 -- Halves of correlations as sources hold them: rows of words, by kind; which are in range, and which fit.
-use Rattle.std.specs.Prelude.{◌≡◌, ℕ, ◌+◌, Bool, cond, List, length, MatchBool, ◌==◌}
+use Rattle.std.specs.Prelude.{◌≡◌, ℕ, ◌+◌, Bool, List, length, MatchBool, if◌then◌else◌, ◌==◌}
 use Rattle.std.specs.List.{AllZip}
 use Rattle.refusal.specs.declared.kind.Kind.{Kind}
 use Rattle.refusal.specs.declared.kind.Kind.TheVariants.{Bit, Ring0, Ring1}
@@ -28,7 +28,7 @@ sends seat k = seat == sender k
 
 -- how many words a half has
 abbrev pub width : ℕ → Kind → ℕ
-width seat k = cond (sends seat k) (entries k + 1) 2
+width seat k = if sends seat k then entries k + 1 else 2
 
 pub record SenderInRange (k : Kind) (h : Half) : Type 0 where
   pub long : length h ≡ entries k + 1

@@ -1,5 +1,5 @@
 -- What a quota stands for, over what the source below it stands for.
-use Rattle.std.specs.Prelude.{ℕ, cond, length, take, drop, nat_lt}
+use Rattle.std.specs.Prelude.{ℕ, length, take, drop, if◌then◌else◌, nat_lt}
 use Rattle.refusal.specs.declared.kind.Kind.{Kind}
 use Rattle.refusal.specs.declared.refusal.Layer.{Layer}
 use Rattle.refusal.specs.declared.refusal.Layer.TheVariants.{Quota as QuotaLayer}
@@ -17,7 +17,7 @@ module _ {S : Type 0} where
 
   -- a shortage below is passed up if the list there is shorter than the number
   abbrev pub quota_layer : (S → Halves) → (S → Kind → Layer) → Quota S → Kind → Layer
-  quota_layer left layer q k = cond (nat_lt (length (left q.below k)) (at q.allowed k)) (layer q.below k) QuotaLayer
+  quota_layer left layer q k = if nat_lt (length (left q.below k)) (at q.allowed k) then layer q.below k else QuotaLayer
 
   -- what of the source below lies past the quota
   abbrev pub quota_past : (S → Halves) → Quota S → Halves

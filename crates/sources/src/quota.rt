@@ -4,14 +4,14 @@ ghost use Rattle.refusal.specs.PerKinds.{at, with_at};
 ghost use Rattle.refusal.specs.declared.kind.Kind.{Kind as KindOf};
 ghost use Rattle.refusal.specs.declared.refusal.Layer.TheVariants.{Quota as QuotaLayer};
 ghost use Rattle.sources.specs.Halves.{InRange};
-ghost use Rattle.sources.specs.Calls.{Draws};
 ghost use Rattle.sources.specs.Ranges.{taken_in_range};
 ghost use Rattle.sources.specs.Quotas.{quota_owner, quota_left, quota_layer, quota_past};
 
-use crate::source::{Source, enough};
+use crate::source::{Half, Source, enough};
 use refusal::kind::Kind;
 use refusal::per_kind::PerKind;
 use refusal::refusal::{Layer, Refusal};
+use refusal::seat::Seat;
 
 // The first `allowed` halves of each kind of the source below.
 #[derive(Drop)]
@@ -43,18 +43,14 @@ impl<S: Source> Quota<S> {
     fn is_short_below(&self, kind: Kind) -> bool
         ensures { result ≡ nat_lt (length (S.left self.now.below kind)) (at self.now.allowed kind) }
     {
-        self.below
-            .afford(kind.number(), self.allowed.get(kind))
-            .is_err()
+        self.below.check(kind, self.allowed.get(kind)).is_err()
     }
 
     // One half of a kind fewer is allowed.
     fn lower(&mut self, kind: Kind)
-        requires { 0 < at self.old.allowed kind }
-        ensures { self.new ≡ record { below = self.old.below; allowed = with_at kind (at self.old.allowed kind - 1) self.old.allowed } }
+        ensures { self.new ≡ record self.old { allowed = with_at kind (at self.old.allowed kind - 1) self.old.allowed } }
     {
-        let number = self.allowed.get(kind);
-        self.allowed.put(kind, number - 1);
+        self.allowed.lower(kind);
     }
 }
 
@@ -65,39 +61,27 @@ impl<S: Source> Source for Quota<S> {
 
     ghost layer = { quota_layer S.Source.left S.Source.layer };
 
+    ghost past = { quota_past S.Source.left };
+
     ghost ranges = { λ s k. taken_in_range (InRange (S.Source.owner s.below) k) (at s.allowed k) (S.Source.left s.below k) (S.Source.ranges s.below k) };
 
-    fn seat(&self) -> u8 {
+    fn seat(&self) -> Seat {
         self.below.seat()
     }
 
-    fn afford(&self, kind: u8, count: u32) -> Result<(), Refusal> {
-        let Some(k) = Kind::from_number(kind) else {
-            return Err(Refusal::BadArgument);
-        };
-        if self.is_short_below(k) {
-            return self.below.afford(kind, count);
+    fn check(&self, kind: Kind, count: u32) -> Result<(), Refusal> {
+        if self.is_short_below(kind) {
+            return self.below.check(kind, count);
         }
-        enough(k, self.allowed.get(k), count, Layer::Quota)
+        enough(kind, self.allowed.get(kind), count, Layer::Quota)
     }
 
-    fn draw(&mut self, kind: u8, words: &mut [u32]) -> Result<usize, Refusal>
-        ensures draws { Draws (quota_owner S.Source.owner self.old) (quota_left S.Source.left self.old) (quota_left S.Source.left self.new) (quota_layer S.Source.left S.Source.layer self.old) kind words.old words.new result }
-        ensures owner { quota_owner S.Source.owner self.new ≡ quota_owner S.Source.owner self.old }
-        ensures layer { quota_layer S.Source.left S.Source.layer self.new ≡ quota_layer S.Source.left S.Source.layer self.old }
-        ensures past { (k : KindOf) → quota_past S.Source.left self.new k ≡ quota_past S.Source.left self.old k }
-    {
-        let Some(k) = Kind::from_number(kind) else {
-            return Err(Refusal::BadArgument);
-        };
-        if words.len() < 17 {
-            return Err(Refusal::PlaceTooShort);
-        }
-        if let Err(e) = enough(k, self.allowed.get(k), 1, Layer::Quota) {
-            return Err(e);
-        }
-        let n = self.below.draw(kind, words)?;
-        self.lower(k);
-        Ok(n)
+    // Not by `check`, which asks the source below first: that refuses here itself, with its own layer, where its
+    // list is empty.
+    fn take(&mut self, kind: Kind) -> Result<Half, Refusal> {
+        enough(kind, self.allowed.get(kind), 1, Layer::Quota)?;
+        let half = self.below.take(kind)?;
+        self.lower(kind);
+        Ok(half)
     }
 }

@@ -3,6 +3,7 @@ ghost use Rattle.std.specs.Prelude.{◌≡◌, ◌+◌, ◌-◌, ◌%◌, ◌^�
 ghost use Rattle.refusal.specs.declared.kind.Kind.{Kind as KindOf};
 ghost use Rattle.refusal.specs.Kinds.{number};
 ghost use Rattle.refusal.specs.Refusals.{code, plain};
+ghost use Rattle.refusal.specs.Seats.{number as seat_number};
 ghost use Rattle.refusal.specs.PerKinds.{at, with_at};
 ghost use Rattle.refusal.specs.declared.refusal.Layer.TheVariants.{Dealer as DealerLayer};
 ghost use Rattle.sources.specs.Halves.{Lawful};
@@ -10,11 +11,12 @@ ghost use Rattle.dealer.specs.Ranges.{dealt_in_range};
 ghost use Rattle.dealer.specs.Dealers.{dealer_owner, dealer_left, Made, LawfulDeal};
 
 use crate::dealer::Dealer;
-use crate::running::write_half;
+use crate::running::{after, half};
 use refusal::kind::Kind;
 use refusal::per_kind::PerKind;
 use refusal::refusal::{Layer, Refusal};
-use sources::source::{Source, enough, width};
+use refusal::seat::Seat;
+use sources::source::{Half, Source, enough};
 
 // Where the kinds run from: the start plus the kind's number.
 fn running_from(start: u64) -> PerKind<u64>
@@ -28,39 +30,39 @@ fn running_from(start: u64) -> PerKind<u64>
 }
 
 impl Dealer {
-    // A dealer at a seat, from a start number, with so many halves of each kind.
+    // A dealer at a seat, from a start number, with so many halves of each kind. The seat is a number,
+    // since the rules have one over 1 refused.
     pub fn new(seat: u8, start: u64, counts: PerKind<u32>) -> Result<Dealer, Refusal>
         ensures { MatchResult result (Made seat start counts) (λ e. (1 < seat) × (code e ≡ plain 8)) }
     {
-        if seat > 1 {
-            return Err(Refusal::BadArgument);
-        }
-        Ok(Dealer {
+        Ok(Dealer::seated(Seat::try_from(seat)?, start, counts))
+    }
+
+    fn seated(seat: Seat, start: u64, counts: PerKind<u32>) -> Dealer
+        ensures { Made (seat_number seat) start counts result }
+    {
+        Dealer {
             seat,
             running: running_from(start),
             counts,
-        })
+        }
     }
 
     // One half of a kind fewer, and its running number as it follows.
     fn move_on(&mut self, kind: Kind, running: u64)
-        requires { 0 < at self.old.counts kind }
         ensures seat { self.new.seat ≡ self.old.seat }
         ensures counts { self.new.counts ≡ with_at kind (at self.old.counts kind - 1) self.old.counts }
         ensures running { self.new.running ≡ with_at kind running self.old.running }
     {
-        let have = self.counts.get(kind);
-        self.counts.put(kind, have - 1);
+        self.counts.lower(kind);
         self.running.put(kind, running);
     }
 }
 
 // Two dealers with the same start and counts, at seats 0 and 1, are a lawful deal.
-pub fn dealers_are_lawful() -> u8
+pub fn dealers_are_lawful()
     ensures { LawfulDeal }
-{
-    0
-}
+{}
 
 // The dealers of both seats, a lawful deal.
 pub fn deal(start: u64, counts: PerKind<u32>) -> (Dealer, Dealer)
@@ -68,18 +70,9 @@ pub fn deal(start: u64, counts: PerKind<u32>) -> (Dealer, Dealer)
     ensures second { Made 1 start counts result.1 }
     ensures lawful { Lawful (dealer_left result.0) (dealer_left result.1) }
 {
-    let running = running_from(start);
     (
-        Dealer {
-            seat: 0,
-            running,
-            counts,
-        },
-        Dealer {
-            seat: 1,
-            running,
-            counts,
-        },
+        Dealer::seated(Seat::Zero, start, counts),
+        Dealer::seated(Seat::One, start, counts),
     )
 }
 
@@ -90,31 +83,21 @@ impl Source for Dealer {
 
     ghost layer = { λ _ _. DealerLayer };
 
-    ghost ranges = { λ s k. dealt_in_range s.seat k (at s.counts k) (at s.running k) };
+    ghost ranges = { λ s k. dealt_in_range (dealer_owner s) k (at s.counts k) (at s.running k) };
 
-    fn seat(&self) -> u8 {
+    fn seat(&self) -> Seat {
         self.seat
     }
 
-    fn afford(&self, kind: u8, count: u32) -> Result<(), Refusal> {
-        let Some(k) = Kind::from_number(kind) else {
-            return Err(Refusal::BadArgument);
-        };
-        enough(k, self.counts.get(k), count, Layer::Dealer)
+    #[tactic(auto, using(crate::proofs::Steps::length_dealt))]
+    fn check(&self, kind: Kind, count: u32) -> Result<(), Refusal> {
+        enough(kind, self.counts.get(kind), count, Layer::Dealer)
     }
 
-    fn draw(&mut self, kind: u8, words: &mut [u32]) -> Result<usize, Refusal> {
-        let Some(k) = Kind::from_number(kind) else {
-            return Err(Refusal::BadArgument);
-        };
-        if words.len() < 17 {
-            return Err(Refusal::PlaceTooShort);
-        }
-        if let Err(e) = enough(k, self.counts.get(k), 1, Layer::Dealer) {
-            return Err(e);
-        }
-        let x = self.running.get(k);
-        self.move_on(k, write_half(self.seat, k, x, words));
-        Ok(width(self.seat, k))
+    fn take(&mut self, kind: Kind) -> Result<Half, Refusal> {
+        self.check(kind, 1)?;
+        let x = self.running.get(kind);
+        self.move_on(kind, after(kind, x));
+        Ok(half(self.seat, kind, x))
     }
 }

@@ -2,22 +2,19 @@
 ghost use Rattle.gadgets.specs.And.{AndComputes, AndFollows, AndTallies};
 
 // The parties come to share the and of the two bits.
-pub fn computes() -> u8
+#[tactic(auto, using(crate::proofs::And::and_computes))]
+pub fn computes()
     ensures { AndComputes }
-{
-    0
-}
+{}
 
 // It takes one lookup of bits, and the result is a bit.
-pub fn follows() -> u8
+#[tactic(auto, using(crate::proofs::And::and_follows))]
+pub fn follows()
     ensures { AndFollows }
-{
-    0
-}
+{}
 
 // The price is one lookup of bits.
-pub fn tallies() -> u8
+#[tactic(auto, using(crate::proofs::And::and_tallies))]
+pub fn tallies()
     ensures { AndTallies }
-{
-    0
-}
+{}

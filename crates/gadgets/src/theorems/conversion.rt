@@ -2,15 +2,13 @@
 ghost use Rattle.gadgets.specs.Conversion.{ConversionComputes, ConversionFollows};
 
 // The parties come to share the bit as a number of 32 bits.
-pub fn computes() -> u8
+#[tactic(auto, using(crate::proofs::Conversion::conversion_computes))]
+pub fn computes()
     ensures { ConversionComputes }
-{
-    0
-}
+{}
 
 // It costs one lookup of numbers in which seat 0 sends.
-pub fn follows() -> u8
+#[tactic(auto, using(crate::proofs::Conversion::conversion_follows))]
+pub fn follows()
     ensures { ConversionFollows }
-{
-    0
-}
+{}

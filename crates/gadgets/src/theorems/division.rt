@@ -2,22 +2,19 @@
 ghost use Rattle.gadgets.specs.Division.{DivisionComputes, DivisionFollows, DivisionTallies};
 
 // The parties come to share the floor of the signed value over d.
-pub fn computes() -> u8
+#[tactic(auto, using(crate::proofs::Division::division_computes))]
+pub fn computes()
     ensures { DivisionComputes }
-{
-    0
-}
+{}
 
 // The lookups are a sign, the flip and three tests, or none where d is 1; the result has the number's width.
-pub fn follows() -> u8
+#[tactic(auto, using(crate::proofs::Division::division_follows))]
+pub fn follows()
     ensures { DivisionFollows }
-{
-    0
-}
+{}
 
 // The price is two sorts of comparisons and four lookups of numbers.
-pub fn tallies() -> u8
+#[tactic(auto, using(crate::proofs::Division::division_tallies))]
+pub fn tallies()
     ensures { DivisionTallies }
-{
-    0
-}
+{}

@@ -2,15 +2,13 @@
 ghost use Rattle.gadgets.specs.Flip.{FlipComputes, FlipFollows};
 
 // The parties come to share how often 2^w is in the sum of their signed shares besides the signed value.
-pub fn computes() -> u8
+#[tactic(auto, using(crate::proofs::Flip::flip_computes))]
+pub fn computes()
     ensures { FlipComputes }
-{
-    0
-}
+{}
 
 // It costs one lookup of numbers in which seat 0 sends.
-pub fn follows() -> u8
+#[tactic(auto, using(crate::proofs::Flip::flip_follows))]
+pub fn follows()
     ensures { FlipFollows }
-{
-    0
-}
+{}

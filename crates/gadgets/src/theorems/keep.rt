@@ -2,22 +2,19 @@
 ghost use Rattle.gadgets.specs.Keep.{KeepComputes, KeepFollows, KeepTallies};
 
 // The parties come to share the number where the bit is 1, and else 0.
-pub fn computes() -> u8
+#[tactic(auto, using(crate::proofs::Keep::keep_computes))]
+pub fn computes()
     ensures { KeepComputes }
-{
-    0
-}
+{}
 
 // It takes two lookups of numbers, and the result has the number's width.
-pub fn follows() -> u8
+#[tactic(auto, using(crate::proofs::Keep::keep_follows))]
+pub fn follows()
     ensures { KeepFollows }
-{
-    0
-}
+{}
 
 // The price is one lookup of numbers in each direction.
-pub fn tallies() -> u8
+#[tactic(auto, using(crate::proofs::Keep::keep_tallies))]
+pub fn tallies()
     ensures { KeepTallies }
-{
-    0
-}
+{}

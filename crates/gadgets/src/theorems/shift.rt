@@ -2,22 +2,19 @@
 ghost use Rattle.gadgets.specs.Shift.{ShiftComputes, ShiftFollows, ShiftTallies};
 
 // The parties come to share the floor of the signed value over 2^s.
-pub fn computes() -> u8
+#[tactic(auto, using(crate::proofs::Shift::shift_computes))]
+pub fn computes()
     ensures { ShiftComputes }
-{
-    0
-}
+{}
 
 // The lookups are a sign, the flip, a comparison and a conversion, or none where s is 0; the result has the number's width.
-pub fn follows() -> u8
+#[tactic(auto, using(crate::proofs::Shift::shift_follows))]
+pub fn follows()
     ensures { ShiftFollows }
-{
-    0
-}
+{}
 
 // The price is two comparisons and two lookups of numbers.
-pub fn tallies() -> u8
+#[tactic(auto, using(crate::proofs::Shift::shift_tallies))]
+pub fn tallies()
     ensures { ShiftTallies }
-{
-    0
-}
+{}

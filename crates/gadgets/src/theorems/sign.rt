@@ -2,15 +2,13 @@
 ghost use Rattle.gadgets.specs.Sign.{SignComputes, SignFollows};
 
 // The parties come to share whether the signed value is not negative.
-pub fn computes() -> u8
+#[tactic(auto, using(crate::proofs::Sign::sign_computes))]
+pub fn computes()
     ensures { SignComputes }
-{
-    0
-}
+{}
 
 // It costs a comparison of the bits below the top, and the result is a bit.
-pub fn follows() -> u8
+#[tactic(auto, using(crate::proofs::Sign::sign_follows))]
+pub fn follows()
     ensures { SignFollows }
-{
-    0
-}
+{}

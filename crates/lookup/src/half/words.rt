@@ -8,27 +8,27 @@ use crate::half::{ReceiverHalf, SenderHalf};
 pub fn at(words: &[u32], i: usize) -> u32
     ensures { result ≡ slice_index words.now i }
 {
-    if i < words.len() { words[i] } else { 0 }
+    words.get(i).copied().unwrap_or(0)
 }
 
-impl<'a> SenderHalf<'a> {
-    // The masks, and then the blind.
-    pub fn from_words(words: &'a [u32]) -> SenderHalf<'a>
-        ensures { sender_of result ≡ sender_from words.now }
-    {
+// The masks, and then the blind.
+impl<'a> From<&'a [u32]> for SenderHalf<'a> {
+    ghost from_gives = { λ words half. sender_of half ≡ sender_from words.now };
+
+    fn from(words: &'a [u32]) -> SenderHalf<'a> {
         let last = words.len().saturating_sub(1);
         SenderHalf {
-            masks: &words[0..last],
+            masks: &words[..last],
             blind: at(words, last),
         }
     }
 }
 
-impl ReceiverHalf {
-    // The choice, and then the mask.
-    pub fn from_words(words: &[u32]) -> ReceiverHalf
-        ensures { receiver_of result ≡ receiver_from words.now }
-    {
+// The choice, and then the mask.
+impl From<&[u32]> for ReceiverHalf {
+    ghost from_gives = { λ words half. receiver_of half ≡ receiver_from words.now };
+
+    fn from(words: &[u32]) -> ReceiverHalf {
         ReceiverHalf {
             choice: at(words, 0),
             mask: at(words, 1),

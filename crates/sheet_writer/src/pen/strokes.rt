@@ -1,19 +1,23 @@
 // Writing bits, numbers and halves with a pen.
-ghost use Rattle.std.specs.Prelude.{◌+◌, ◌*◌, ◌<◌, ◌≤◌, [], ◌∷◌, length};
-ghost use Rattle.sheets.specs.Bits.{bits as bits_at};
+ghost use Rattle.std.specs.Prelude.{◌≡◌, ◌+◌, ◌<◌, ◌≤◌, [], ◌∷◌, length};
+ghost use Rattle.refusal.specs.Seats.{number};
+ghost use Rattle.sheets.specs.Bits.{bits};
 ghost use Rattle.sheets.specs.Layout.{field_size, row_bits};
-ghost use Rattle.sheet_writer.specs.Pens.{place as place_of, Fresh, Pushed, Finished};
+ghost use Rattle.sheet_writer.specs.Pens.{place, capacity, Fresh, Pushed, Finished};
 
 use crate::pen::Pen;
 use refusal::kind::Kind;
+use refusal::seat::Seat;
 use sheets::layout::field_size;
 
-impl Pen {
+impl<'a> Pen<'a> {
     // A pen at the start of a sheet.
-    pub(crate) fn new() -> Pen
-        ensures { Fresh result }
+    pub(crate) fn new(bytes: &'a mut [u8]) -> Pen<'a>
+        ensures fresh { Fresh result bytes.old }
+        ensures same_reference { result.bytes.ghost_name ≡ bytes.entry.ghost_name }
     {
         Pen {
+            bytes,
             at: 0,
             filled: 0,
             current: 0,
@@ -21,57 +25,50 @@ impl Pen {
     }
 
     // Writes one bit more.
-    fn push_bit(self, bit: u32, bytes: &mut [u8]) -> Pen
+    fn push_bit(&mut self, bit: u32)
         requires one_bit { bit < 2 }
-        requires room { place_of self < 8 * length bytes.old }
-        ensures { Pushed self result bytes.old bytes.new (bit ∷ []) }
+        requires room { place self.old < capacity self.old }
+        ensures { Pushed self.old self.new (bit ∷ []) }
     {
         let current = 2 * self.current + bit;
         if self.filled == 7 {
-            bytes[self.at] = current as u8;
-            return Pen {
-                at: self.at + 1,
-                filled: 0,
-                current: 0,
-            };
-        }
-        Pen {
-            at: self.at,
-            filled: self.filled + 1,
-            current,
+            self.bytes[self.at] = current as u8;
+            self.at += 1;
+            self.current = 0;
+            self.filled = 0;
+        } else {
+            self.filled += 1;
+            self.current = current;
         }
     }
 
     // Writes a number in so many bits, the most significant first.
-    pub(crate) fn push(self, value: u32, n: u32, bytes: &mut [u8]) -> Pen
+    pub(crate) fn push(&mut self, value: u32, n: u32)
         requires few { n ≤ 32 }
-        requires room { place_of self + n ≤ 8 * length bytes.old }
-        ensures { Pushed self result bytes.old bytes.new (bits_at n value) }
+        requires room { place self.old + n ≤ capacity self.old }
+        ensures { Pushed self.old self.new (bits n value) }
     {
-        let mut pen = self;
         for i in 0..n {
-            pen = pen.push_bit((value >> (n - 1 - i)) % 2, bytes);
+            self.push_bit((value >> (n - 1 - i)) % 2);
         }
-        pen
     }
 
     // Writes a seat's half of a kind, field by field.
-    pub(crate) fn push_half(self, seat: u8, kind: Kind, half: &[u32], bytes: &mut [u8]) -> Pen
-        requires { place_of self + length (row_bits (field_size seat kind) 0 half.now) ≤ 8 * length bytes.old }
-        ensures { Pushed self result bytes.old bytes.new (row_bits (field_size seat kind) 0 half.now) }
+    pub(crate) fn push_half(&mut self, seat: Seat, kind: Kind, half: &[u32])
+        requires { place self.old + length (row_bits (field_size (number seat) kind) 0 half.now) ≤ capacity self.old }
+        ensures { Pushed self.old self.new (row_bits (field_size (number seat) kind) 0 half.now) }
     {
-        let mut pen = self;
-        for i in 0..half.len() {
-            pen = pen.push(half[i], field_size(seat, kind, i), bytes);
+        for (i, value) in half.iter().enumerate() {
+            self.push(*value, field_size(u8::from(seat), kind, i));
         }
-        pen
     }
 
     // Fills the last byte with zero bits, and answers how many bytes the sheet has.
-    pub(crate) fn finish(self, bytes: &mut [u8]) -> usize
-        requires { place_of self ≤ 8 * length bytes.old }
-        ensures { Finished self result bytes.old bytes.new }
+    pub(crate) fn finish(&mut self) -> usize
+        requires { place self.old ≤ capacity self.old }
+        ensures { Finished self.old self.new result }
     {
-        self.push(0, (8 - self.filled) % 8, bytes).at
+        self.push(0, (8 - self.filled) % 8);
+        self.at
     }
 }

@@ -14,10 +14,10 @@ returns c =
     let s = sender_from c.args.sent.now in
     let r = receiver_from c.args.sought.now in
     let d = c.request-asked.result in
-    let sender : sender_of c.from_words-sender.result ≡ s = c.from_words-sender.ensures in
-    let receiver : receiver_of c.from_words-receiver.result ≡ r = c.from_words-receiver.ensures in
+    let sender : sender_of c.from-sender.result ≡ s = c.from-sender.ensures in
+    let receiver : receiver_of c.from-receiver.result ≡ r = c.from-receiver.ensures in
     let asked : d ≡ request 16 r (index b) = c.request-asked.ensures ∙ ap₂ (request 16) receiver c.index.ensures in
-    let wrote : c.answer.new.words ≡ map (word xor (length (sender_of c.from_words-sender.result).masks) (entry_of c.table.result) (sender_of c.from_words-sender.result) d) (range_with_len 0 16) = c.answer.ensures in
+    let wrote : c.answer.new.words ≡ map (word xor (length (sender_of c.from-sender.result).masks) (entry_of c.table.result) (sender_of c.from-sender.result) d) (range_with_len 0 16) = c.answer.ensures in
     let by_masks : c.answer.new.words ≡ map (word xor (length s.masks) (entry_of (table a)) s d) (range_with_len 0 16) =
     wrote ∙ ap₂ (λ (h : Sender) t. map (word xor (length h.masks) (entry_of t) h d) (range_with_len 0 16)) sender c.table.ensures in
     let first : c.sender_share.result % 2 ≡ sender_share xor s % 2 = ap (λ m. m % 2) (c.sender_share.ensures ∙ ap (sender_share xor) sender) in

@@ -1,26 +1,16 @@
-use Rattle.std.proofs.Common.{◌≡◌, ◌+◌, ◌/◌, ◌≤◌, length, sym, subst, arith}
-use Rattle.refusal.specs.declared.kind.Kind.{Kind}
-use Rattle.std.specs.List.{AllByRecursion}
-use Rattle.sources.specs.Halves.{InRange}
-use Rattle.sheet_writer.specs.Writing.{bits_needed, Wrote}
+-- The header, the halves and the filling are the whole sheet.
+use Rattle.std.proofs.Common.{◌+◌, ◌/◌, ◌<◌, ◌≤◌, length, rules, subst, arith}
+use Rattle.refusal.proofs.Reading.{seat_low}
+use Rattle.sheet_writer.specs.Pens.{Pushed}
+use Rattle.sheet_writer.specs.Writing.{bits_needed, header_bits}
 use Rattle.sheet_writer.proofs.Writing.{wrote}
 use Rattle.sheet_writer.proofs.writer.write_sheet.Goals as goal
 
-pub returns : goal.returns
-returns g c =
-    let S = g.S.Source in
-    let s = c.args.source.now in
-    let seat = c.seat-seat.result in
-    let is : seat ≡ S.owner s = c.seat-seat.ensures.is in
-    let counts = c.in-Ok.n in
-    let header = c.write_header-pen.ensures in
-    let halves = c.write_halves-pen.ensures in
-    let xs = c.args.bytes.now in
-    let us = c.finish.new.bytes in
-    let left = S.left s in
-    let left' = S.left c.write_halves-pen.new.source in
-    let needed : (bits_needed seat counts + 7) / 8 ≤ length xs = let e = c.bits_needed.ensures in omega arith in
-    let ranges : (k : Kind) → AllByRecursion (InRange seat k) (left k) = λ k. subst (λ i. AllByRecursion (InRange i k) (left k)) (sym is) (S.ranges s k) in
-    let all = wrote seat left left' counts c.write_header-pen.result c.write_halves-pen.result c.finish.result xs c.write_header-pen.new.bytes c.write_halves-pen.new.bytes us
-    c.seat-seat.ensures.low ranges c.in-Ok.ensures needed header.written header.past header.moved halves.pushed halves.moved c.finish.ensures halves.empty in
-    record { sheet = subst (λ i. Wrote i left left' xs us c.finish.result) is all; owner = halves.owner }
+pub returns-clause-sheet : goal.returns-clause-sheet
+returns-clause-sheet g c =
+    let counts = c.in_ok-counts.counts in
+    let halves = c.write_halves.ensures in
+    -- the seat that the source gives is its owner
+    let own = subst (λ seat. (seat < 2) × ((bits_needed seat counts + 7) / 8 ≤ length c.args.bytes.now) × Pushed c.new-pen.result c.write_header.new.pen (header_bits seat counts))
+    c.seat-seat.ensures (seat_low c.seat-seat.result, (let e = c.bits_needed.ensures in omega arith), c.write_header.ensures) in
+    wrote own.0 (g.S.Source.ranges c.args.source.now) c.in_ok-counts.ensures own.1 c.new-pen.ensures.fresh own.2 halves.pushed halves.moved c.finish.ensures (search rules) halves.empty

@@ -1,6 +1,6 @@
-use Rattle.std.proofs.Common.{◌≡◌, ◌+◌, ◌*◌, ap, ◌∙◌, arith}
+use Rattle.std.proofs.Common.{◌≡◌, ◌+◌, ◌*◌, arith}
 use Rattle.sheets.specs.Bits.{bits_of, read}
-use Rattle.sheets.specs.Places.{read_more, read_low, read_low_32}
+use Rattle.sheets.specs.Places.{read_more, read_low_32}
 use Rattle.sheets.proofs.layout.read.Goals as goal
 
 pub loop-i-preserved : goal.loop-i-preserved
@@ -12,12 +12,3 @@ loop-i-preserved c =
     let h = read_low_32 s p (i + 1) (omega arith) in
     let w : 2 * c.loop-i.v + c.from.result ≡ read (bits_of s) p (i + 1) = cc in
     (w, omega arith)
-
-pub returns : goal.returns
-returns c =
-    let s = c.args.sheet.now in
-    let p = c.args.p in
-    let n = c.args.n in
-    let q : c.loop-i.i ≡ n = omega arith in
-    let e : c.loop-i.v ≡ read (bits_of s) p n = c.loop-i.invariant.0 ∙ ap (read (bits_of s) p) q in
-    record { is = e; low = rw e (read_low s p n) }

@@ -5,4 +5,4 @@ use Rattle.sheet_writer.specs.Pens.{Pushed}
 use Rattle.sheet_writer.proofs.pen.Pen.push.Given as goal
 
 abbrev pub invariant-loop-i : goal.invariant-loop-i
-invariant-loop-i l = Pushed l.initial.pen l.pen l.initial.bytes l.bytes (bits l.i (l.value / 2 ^ (l.n - l.i)))
+invariant-loop-i l = Pushed l.initial.self l.self (bits l.i (l.value / 2 ^ (l.n - l.i)))

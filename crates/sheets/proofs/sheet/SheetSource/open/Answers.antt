@@ -1,5 +1,6 @@
 use Rattle.std.proofs.Common.{◌≡◌, ◌+◌, sym, refl, ap, ◌∙◌}
 use Rattle.refusal.specs.declared.kind.Kind.TheVariants.{Bit, Ring0, Ring1}
+use Rattle.refusal.specs.Seats.{number as seat_number}
 use Rattle.sheets.specs.Bits.{bits_of}
 use Rattle.sheets.specs.Layout.{seat_of, end_of, whole_at}
 use Rattle.sheets.proofs.Sizes.{half_some}
@@ -10,10 +11,10 @@ pub returns-then-not-is_whole : goal.returns-then-not-is_whole
 returns-then-not-is_whole c =
     let bytes = c.args.sheet.now in
     let bs = bits_of bytes in
-    let seat : c.read-seat.result ≡ seat_of bs = c.read-seat.ensures.is in
-    let a = span_is bs Bit c.span-first.result c.read.result c.read-seat.result c.span-first.ensures.is c.read.ensures.is seat in
-    let b = span_is bs Ring0 c.span.result c.read-2.result c.read-seat.result c.span.ensures.is c.read-2.ensures.is seat in
-    let d = span_is bs Ring1 c.span-2.result c.read-3.result c.read-seat.result c.span-2.ensures.is c.read-3.ensures.is seat in
+    let seat = c.seat_of-seat.ensures in
+    let a = span_is bs Bit c.span-first.result c.read.result (seat_number c.seat_of-seat.result) c.span-first.ensures.is c.read.ensures.is seat in
+    let b = span_is bs Ring0 c.span.result c.read-2.result (seat_number c.seat_of-seat.result) c.span.ensures.is c.read-2.ensures.is seat in
+    let d = span_is bs Ring1 c.span-2.result c.read-3.result (seat_number c.seat_of-seat.result) c.span-2.ensures.is c.read-3.ensures.is seat in
     let third = 40 + c.span-first.result + c.span.result + c.span-2.result in
     let end : third ≡ end_of bs = end_is bytes c.span-first.result c.span.result c.span-2.result a b d in
     record { none = no_sheet bytes (ap (whole_at bytes) (sym end) ∙ sym c.is_whole.ensures ∙ c.if-not-is_whole.true); says = refl }
@@ -22,10 +23,10 @@ pub returns : goal.returns
 returns c =
     let bytes = c.args.sheet.now in
     let bs = bits_of bytes in
-    let seat : c.read-seat.result ≡ seat_of bs = c.read-seat.ensures.is in
-    let a = span_is bs Bit c.span-first.result c.read.result c.read-seat.result c.span-first.ensures.is c.read.ensures.is seat in
-    let b = span_is bs Ring0 c.span.result c.read-2.result c.read-seat.result c.span.ensures.is c.read-2.ensures.is seat in
-    let d = span_is bs Ring1 c.span-2.result c.read-3.result c.read-seat.result c.span-2.ensures.is c.read-3.ensures.is seat in
+    let seat = c.seat_of-seat.ensures in
+    let a = span_is bs Bit c.span-first.result c.read.result (seat_number c.seat_of-seat.result) c.span-first.ensures.is c.read.ensures.is seat in
+    let b = span_is bs Ring0 c.span.result c.read-2.result (seat_number c.seat_of-seat.result) c.span.ensures.is c.read-2.ensures.is seat in
+    let d = span_is bs Ring1 c.span-2.result c.read-3.result (seat_number c.seat_of-seat.result) c.span-2.ensures.is c.read-3.ensures.is seat in
     let third = 40 + c.span-first.result + c.span.result + c.span-2.result in
     let end : third ≡ end_of bs = end_is bytes c.span-first.result c.span.result c.span-2.result a b d in
-    opened bytes c.read-seat.result c.span-first.result c.span.result c.span-2.result a b d seat c.read-seat.ensures.low (half_some (seat_of bs)) (ap (whole_at bytes) (sym end) ∙ sym c.is_whole.ensures ∙ c.if-not-is_whole.false)
+    opened bytes (seat_number c.seat_of-seat.result) c.span-first.result c.span.result c.span-2.result a b d seat (half_some (seat_of bs)) (ap (whole_at bytes) (sym end) ∙ sym c.is_whole.ensures ∙ c.if-not-is_whole.false)
