@@ -47,7 +47,8 @@ fn bits_needed(seat: Seat, counts: PerKind<u32>) -> usize
     40 + bit + ring0 + ring1
 }
 
-// Takes the first half of a kind, and writes it. That the owner stays is a clause, as at `take`.
+// Takes the first half of a kind, and writes it. Pen and source stay two parameters here and below: they are
+// lent by two owners, and have nothing to say of one another. That the owner stays is a clause, as at `take`.
 fn drain_one<S: Source>(pen: &mut Pen<'_>, source: &mut S, kind: Kind)
     requires some { 0 < length (S.left source.old kind) }
     requires room { place pen.old + half_size (S.owner source.old) kind ≤ capacity pen.old }
@@ -64,7 +65,7 @@ fn drain_one<S: Source>(pen: &mut Pen<'_>, source: &mut S, kind: Kind)
     pen.push_half(source.seat(), kind, half.as_slice());
 }
 
-// Draws all halves of a kind, and writes them.
+// Takes all halves of a kind, and writes them.
 fn drain<S: Source>(pen: &mut Pen<'_>, source: &mut S, kind: Kind, count: u32)
     requires all { count ≡ length (S.left source.old kind) }
     requires room { place pen.old + count * half_size (S.owner source.old) kind ≤ capacity pen.old }
