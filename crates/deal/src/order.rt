@@ -1,4 +1,7 @@
 // What the program's arguments ask for, and what can be wrong with them.
+ghost use Rattle.std.specs.Prelude.{◌≡◌, ◌<◌, IfOk, string_bytes};
+ghost use Rattle.deal.specs.Order.{Few};
+
 use crate::per_seat::PerSeat;
 use refusal::kind::Kind;
 use refusal::per_kind::PerKind;
@@ -89,7 +92,9 @@ fn number(word: Option<String>, field: Field) -> Result<u64, BadCall> {
     word.as_str().parse().map_err(|_| BadCall::TooLarge(field))
 }
 
-fn count(word: Option<String>, kind: Kind) -> Result<u32, BadCall> {
+fn count(word: Option<String>, kind: Kind) -> Result<u32, BadCall>
+    ensures { IfOk result (λ n. n < 8192) }
+{
     let field = Field::Count(kind);
     u32::try_from(number(word, field)?)
         .ok()
@@ -97,7 +102,9 @@ fn count(word: Option<String>, kind: Kind) -> Result<u32, BadCall> {
         .ok_or(BadCall::TooLarge(field))
 }
 
-fn counts(words: &mut env::Args) -> Result<PerKind<u32>, BadCall> {
+fn counts(words: &mut env::Args) -> Result<PerKind<u32>, BadCall>
+    ensures { IfOk result Few }
+{
     Ok(PerKind {
         bit: count(words.next(), Kind::Bit)?,
         ring0: count(words.next(), Kind::Ring0)?,
@@ -106,7 +113,9 @@ fn counts(words: &mut env::Args) -> Result<PerKind<u32>, BadCall> {
 }
 
 // The names where none are given.
-fn default_files(heap: Global) -> Result<PerSeat<String>, AllocError> {
+fn default_files(heap: Global) -> Result<PerSeat<String>, AllocError>
+    ensures { IfOk result (λ files. string_bytes files.first ≡ string_bytes files.second → ⊥) }
+{
     Ok(PerSeat {
         first: String::from_str(heap, "deal-0.sheet")?,
         second: String::from_str(heap, "deal-1.sheet")?,
@@ -114,7 +123,9 @@ fn default_files(heap: Global) -> Result<PerSeat<String>, AllocError> {
 }
 
 // The names that are given, which differ, since one sheet would stand in the other's place.
-fn given_files(first: String, second: Option<String>) -> Result<PerSeat<String>, BadCall> {
+fn given_files(first: String, second: Option<String>) -> Result<PerSeat<String>, BadCall>
+    ensures { IfOk result (λ files. string_bytes files.first ≡ string_bytes files.second → ⊥) }
+{
     let second = second.ok_or(BadCall::OneFile)?;
     if first == second {
         return Err(BadCall::SameFile);
@@ -122,7 +133,9 @@ fn given_files(first: String, second: Option<String>) -> Result<PerSeat<String>,
     Ok(PerSeat { first, second })
 }
 
-fn files(heap: Global, words: &mut env::Args) -> anyhow::Result<PerSeat<String>> {
+fn files(heap: Global, words: &mut env::Args) -> anyhow::Result<PerSeat<String>>
+    ensures { IfOk result (λ files. string_bytes files.first ≡ string_bytes files.second → ⊥) }
+{
     let Some(first) = words.next() else {
         return Ok(default_files(heap)?);
     };
@@ -134,8 +147,11 @@ fn files(heap: Global, words: &mut env::Args) -> anyhow::Result<PerSeat<String>>
 }
 
 impl Order {
-    // The order that the program's arguments make.
-    pub fn from_args(rt: &(impl Env + AllocGlobal)) -> anyhow::Result<Order> {
+    // The order that the program's arguments make: a deal that two sheets can hold, in two files.
+    pub fn from_args(rt: &(impl Env + AllocGlobal)) -> anyhow::Result<Order>
+        ensures few { IfOk result (λ order. Few order.counts) }
+        ensures apart { IfOk result (λ order. string_bytes order.files.first ≡ string_bytes order.files.second → ⊥) }
+    {
         let mut words = env::args(rt)?;
         let _ = words.next();
         Ok(Order {

@@ -1,5 +1,10 @@
 // The sheets of a deal: written from sources, and examined pair by pair as they are read again.
-ghost use Rattle.std.specs.Prelude.{◌<◌, ◌≤◌, ◌↔◌, IsTrue, length};
+ghost use Rattle.std.specs.Prelude.{◌≡◌, ◌<◌, ◌≤◌, ◌↔◌, [], IsTrue, IfOk, IfErr, OnOk, OnErr, Some, MatchResult, length};
+ghost use Rattle.refusal.specs.declared.kind.Kind.{Kind as KindOf};
+ghost use Rattle.refusal.specs.Seats.{number};
+ghost use Rattle.sheets.specs.Layout.{decode};
+ghost use Rattle.sheets.specs.Sheets.{sheet_owner, Opened};
+ghost use Rattle.deal.specs.Examined.{lawful, whole, Examined, Unreadable};
 ghost use Rattle.lookup.specs.Halves.{sender_from, receiver_from};
 ghost use Rattle.lookup.specs.Lookup.{Fit};
 
@@ -44,7 +49,9 @@ impl fmt::Display for Tally {
 
 impl Tally {
     // What a lawful deal of so many halves comes to: each sheet has so many, and all fit.
-    fn lawful(count: u32) -> Tally {
+    fn lawful(count: u32) -> Tally
+        ensures { result ≡ whole count }
+    {
         Tally {
             drawn: count,
             fit: count,
@@ -54,17 +61,36 @@ impl Tally {
 }
 
 impl Findings {
-    // Whether the sheets are those of seats 0 and 1, and a lawful deal of so many halves.
-    pub fn is_lawful(&self, counts: PerKind<u32>) -> bool {
-        self.seats.first == Seat::Zero
-            && self.seats.second == Seat::One
-            && Kind::ALL.iter().all(|&kind| self.tallies.get(kind)
-                == Tally::lawful(counts.get(kind)))
+    // What the sheets of seats 0 and 1, and a lawful deal of so many halves, come to.
+    fn lawful(counts: PerKind<u32>) -> Findings
+        ensures { result ≡ lawful counts }
+    {
+        Findings {
+            seats: PerSeat {
+                first: Seat::Zero,
+                second: Seat::One,
+            },
+            tallies: PerKind {
+                bit: Tally::lawful(counts.bit),
+                ring0: Tally::lawful(counts.ring0),
+                ring1: Tally::lawful(counts.ring1),
+            },
+        }
+    }
+
+    pub fn is_lawful(&self, counts: PerKind<u32>) -> bool
+        ensures { IsTrue result ↔ (self.now ≡ lawful counts) }
+    {
+        *self == Findings::lawful(counts)
     }
 }
 
-// The sheet of all that a source has left.
-pub fn sheet_of<S: Source>(heap: Global, source: &mut S) -> anyhow::Result<Vec<u8>> {
+// The sheet of all that a source has left, which is then empty; an error leaves the source as it was.
+pub fn sheet_of<S: Source>(heap: Global, source: &mut S) -> anyhow::Result<Vec<u8>>
+    ensures sheet { IfOk result (λ v. decode v.items ≡ Some (record { seat = S.owner source.old; left = S.left source.old })) }
+    ensures empty { OnOk result ((k : KindOf) → S.left source.new k ≡ []) }
+    ensures stays { OnErr result (S.left source.new ≡ S.left source.old) }
+{
     let mut bytes = vec![in heap; 0u8; LONGEST]?;
     let n = write_sheet(source, bytes.as_mut_slice())?;
     bytes.truncate(n);
@@ -81,14 +107,21 @@ fn fits(sent: &[u32], sought: &[u32]) -> bool
 
 // The sheets of the two seats, open.
 impl<'a> PerSeat<SheetSource<'a>> {
-    fn open(first: &'a [u8], second: &'a [u8]) -> Result<PerSeat<SheetSource<'a>>, Refusal> {
+    fn open(first: &'a [u8], second: &'a [u8]) -> Result<PerSeat<SheetSource<'a>>, Refusal>
+        ensures one { IfOk result (λ s. Opened first.now s.first) }
+        ensures other { IfOk result (λ s. Opened second.now s.second) }
+        ensures none { IfErr result (Unreadable first.now second.now) }
+    {
         Ok(PerSeat {
             first: SheetSource::open(first)?,
             second: SheetSource::open(second)?,
         })
     }
 
-    fn seats(&self) -> PerSeat<Seat> {
+    fn seats(&self) -> PerSeat<Seat>
+        ensures first { number result.first ≡ sheet_owner self.now.first }
+        ensures second { number result.second ≡ sheet_owner self.now.second }
+    {
         PerSeat {
             first: self.first.seat(),
             second: self.second.seat(),
@@ -134,7 +167,9 @@ impl<'a> PerSeat<SheetSource<'a>> {
 }
 
 // Opens two sheets, and draws so many pairs of each kind.
-pub fn examine(first: &[u8], second: &[u8], counts: PerKind<u32>) -> Result<Findings, Refusal> {
+pub fn examine(first: &[u8], second: &[u8], counts: PerKind<u32>) -> Result<Findings, Refusal>
+    ensures { MatchResult result (Examined first.now second.now counts) (Unreadable first.now second.now) }
+{
     let mut sheets = PerSeat::open(first, second)?;
     Ok(Findings {
         seats: sheets.seats(),
