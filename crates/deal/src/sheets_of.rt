@@ -1,6 +1,7 @@
 // The sheets of a deal: written from sources, and examined pair by pair as they are read again.
-ghost use Rattle.std.specs.Prelude.{◌≡◌, ◌<◌, ◌≤◌, ◌↔◌, [], IsTrue, IfOk, IfErr, OnOk, OnErr, Some, MatchResult, length};
+ghost use Rattle.std.specs.Prelude.{◌≡◌, ◌+◌, ◌<◌, ◌≤◌, ◌↔◌, [], IsTrue, IfOk, IfErr, OnOk, OnErr, Some, MatchResult, length, slice_index};
 ghost use Rattle.refusal.specs.declared.kind.Kind.{Kind as KindOf};
+ghost use Rattle.refusal.specs.Kinds.{entries};
 ghost use Rattle.refusal.specs.Seats.{number};
 ghost use Rattle.sheets.specs.Layout.{decode};
 ghost use Rattle.sheets.specs.Sheets.{sheet_owner, Opened};
@@ -9,7 +10,8 @@ ghost use Rattle.lookup.specs.Halves.{sender_from, receiver_from};
 ghost use Rattle.lookup.specs.Lookup.{Fit};
 
 use crate::per_seat::PerSeat;
-use lookup::half::{ReceiverHalf, SenderHalf};
+use lookup::half::ReceiverHalf;
+use lookup::half::words::at;
 use refusal::kind::Kind;
 use refusal::per_kind::PerKind;
 use refusal::refusal::Refusal;
@@ -97,12 +99,14 @@ pub fn sheet_of<S: Source>(heap: Global, source: &mut S) -> anyhow::Result<Vec<u
     Ok(bytes)
 }
 
-// Whether the receiver's mask is the sender's at the receiver's choice.
-fn fits(sent: &[u32], sought: &[u32]) -> bool
-    ensures { let s = sender_from sent.now in let r = receiver_from sought.now in IsTrue result ↔ ((r.choice < length s.masks) × Fit s r) }
+// Whether the receiver's mask is the sender's at the receiver's choice. Both may be receivers' halves, where two
+// sheets are of one seat: words past a half are 0 then.
+fn fits(kind: Kind, sent: &[u32], sought: &[u32]) -> bool
+    ensures reads { let r = receiver_from sought.now in IsTrue result ↔ ((r.choice < entries kind) × (r.mask ≡ slice_index sent.now r.choice)) }
+    ensures fit { length sent.now ≡ entries kind + 1 → let s = sender_from sent.now in let r = receiver_from sought.now in IsTrue result ↔ ((r.choice < length s.masks) × Fit s r) }
 {
     let ReceiverHalf { choice, mask } = ReceiverHalf::from(sought);
-    SenderHalf::from(sent).masks.get(choice as usize) == Some(&mask)
+    choice < kind.entries() && at(sent, choice as usize) == mask
 }
 
 // The sheets of the two seats, open.
@@ -134,9 +138,9 @@ impl<'a> PerSeat<SheetSource<'a>> {
         let theirs = self.second.take(kind).ok()?;
         let (mine, theirs) = (mine.as_slice(), theirs.as_slice());
         if Seat::Zero.sends(kind) {
-            Some(fits(mine, theirs))
+            Some(fits(kind, mine, theirs))
         } else {
-            Some(fits(theirs, mine))
+            Some(fits(kind, theirs, mine))
         }
     }
 
