@@ -41,7 +41,7 @@ fn top(size: u32, x: u64) -> u32
 }
 
 // The running number that follows a whole correlation: its masks, its blind and its choice.
-pub(crate) fn after(kind: Kind, x: u64) -> u64
+fn after(kind: Kind, x: u64) -> u64
     ensures { result ≡ run (entries kind + 2) x }
 {
     ahead(x, kind.entries() + 2)
@@ -71,9 +71,11 @@ fn masks_and_blind(kind: Kind) -> u32
     kind.entries() + 1
 }
 
-// The masks, and then the blind, which stands where one mask more would.
-fn sender_half(kind: Kind, x: u64) -> Half
-    ensures { result.items ≡ sender_half kind x }
+// The masks, and then the blind, which stands where one mask more would. Here and below the number beside the half
+// is the running number that follows the whole correlation: it falls out of the same steps.
+fn sender_half(kind: Kind, x: u64) -> (Half, u64)
+    ensures half { result.0.items ≡ sender_half kind x }
+    ensures after { result.1 ≡ run (entries kind + 2) x }
 {
     let mut half = Half::new();
     let mut y = x;
@@ -81,22 +83,25 @@ fn sender_half(kind: Kind, x: u64) -> Half
         y = next(y);
         half.push(top(kind.mask_size(), y));
     }
-    half
+    (half, next(y))
 }
 
-fn receiver_half(kind: Kind, x: u64) -> Half
-    ensures { result.items ≡ receiver_half kind x }
+fn receiver_half(kind: Kind, x: u64) -> (Half, u64)
+    ensures half { result.0.items ≡ receiver_half kind x }
+    ensures after { result.1 ≡ run (entries kind + 2) x }
 {
-    let choice = choice_at(kind, after(kind, x));
+    let last = after(kind, x);
+    let choice = choice_at(kind, last);
     let mut half = Half::new();
     half.push(choice);
     half.push(mask_at(kind, x, choice));
-    half
+    (half, last)
 }
 
 // A seat's half of the correlation that begins at x.
-pub(crate) fn half(seat: Seat, kind: Kind, x: u64) -> Half
-    ensures { result.items ≡ half_of (number seat) kind x }
+pub(crate) fn half(seat: Seat, kind: Kind, x: u64) -> (Half, u64)
+    ensures half { result.0.items ≡ half_of (number seat) kind x }
+    ensures after { result.1 ≡ run (entries kind + 2) x }
 {
     if seat.sends(kind) {
         sender_half(kind, x)

@@ -1,6 +1,7 @@
 -- What strokes of a pen write: one bit, one stroke after another, a number, a row of fields, and the filling.
-use Rattle.std.proofs.Common.{◌≡◌, ℕ, zero, suc, ◌+◌, ◌-◌, ◌*◌, ◌/◌, ◌%◌, ◌^◌, ◌<◌, ◌≤◌, List, [], ◌∷◌, ◌++◌, length, get_or, take, drop, set, replicate, sym, refl, ap, ◌∙◌, subst, ap₂, append_assoc, append-nil, pow-suc, add-one, arith, take-append-drop, length-set}
+use Rattle.std.proofs.Common.{◌≡◌, ℕ, zero, suc, ◌+◌, ◌-◌, ◌*◌, ◌/◌, ◌%◌, ◌^◌, ◌<◌, ◌≤◌, List, [], ◌∷◌, ◌++◌, length, get_or, take, drop, set, replicate, sym, refl, ap, ◌∙◌, subst, ap₂, append_assoc, append-nil, mul_assoc, mul_comm, pow-suc, add-one, arith, take-append-drop, length-set}
 use native.Mathlib.Nat.{pow-succ', div-div-eq-div-mul, zero-div}
+use Rattle.std.proofs.lemmas.Nat.{pow_pos, pow-add, shr-shr, div-add-mod', mul-add-lt, mod_below}
 use Rattle.std.proofs.lemmas.List.{length-append, length-take-le, take_more, take_more_set, drop-drop, drop-set-lt}
 use Rattle.sheet_writer.specs.declared.pen.Pen.{Pen}
 use Rattle.sheets.specs.Bits.{bits, bits_of}
@@ -21,13 +22,29 @@ bits_more n x b h =
     let rest : (2 * x + b) % 2 ≡ b = omega arith in
     ap (λ m. bits m (2 * x + b)) (add-one n) ∙ bits_last n (2 * x + b) ∙ ap₂ (λ q r. bits n q ++ (r ∷ [])) half rest
 
--- the first bits of a number of n bits, one more
-pub bits_first : (v n i : ℕ) → i < n → bits (i + 1) (v / 2 ^ (n - (i + 1))) ≡ bits i (v / 2 ^ (n - i)) ++ (v / 2 ^ (n - 1 - i) % 2 ∷ [])
-bits_first v n i h =
-    let m : n - i ≡ suc (n - (i + 1)) = omega arith in
-    let k : n - (i + 1) ≡ n - 1 - i = omega arith in
-    let half : v / 2 ^ (n - (i + 1)) / 2 ≡ v / 2 ^ (n - i) = div-div-eq-div-mul v (2 ^ (n - (i + 1))) 2 ∙ ap (λ z. v / z) (sym (pow-suc 2 (n - (i + 1))) ∙ ap (λ z. 2 ^ z) (sym m)) in
-    ap (λ z. bits z (v / 2 ^ (n - (i + 1)))) (add-one i) ∙ bits_last i (v / 2 ^ (n - (i + 1))) ∙ ap₂ (λ q z. bits i q ++ (v / 2 ^ z % 2 ∷ [])) half k
+-- a number of s bits behind another number
+bits_join : (n s x y : ℕ) → y < 2 ^ s → bits (n + s) (x * 2 ^ s + y) ≡ bits n x ++ bits s y
+bits_join n zero x y h =
+    let e : x * 1 + y ≡ x = omega arith in
+    let z : n + 0 ≡ n = omega arith in
+    ap₂ bits z e ∙ sym (append-nil (bits n x))
+bits_join n (suc s) x y h =
+    let m : n + suc s ≡ n + s + 1 = omega arith in
+    let p : 2 ^ suc s ≡ 2 ^ s * 2 = pow-suc 2 s in
+    let q : x * 2 ^ suc s ≡ x * 2 ^ s * 2 = ap (λ z. x * z) p ∙ sym (mul_assoc x (2 ^ s) 2) in
+    let e : x * 2 ^ suc s + y ≡ 2 * (x * 2 ^ s + y / 2) + y % 2 = omega arith in
+    ap₂ bits m e ∙ bits_more (n + s) (x * 2 ^ s + y / 2) (y % 2) (omega arith)
+    ∙ ap (λ bs. bs ++ (y % 2 ∷ [])) (bits_join n s x (y / 2) (omega arith))
+    ∙ append_assoc (bits n x) (bits s (y / 2)) (y % 2 ∷ [])
+    ∙ ap (λ bs. bits n x ++ bs) (sym (bits_last s y))
+
+-- of a number of n bits, s bits more than the first ones, and so many left
+pub bits_first : (v n l s : ℕ) → l + s ≤ n → bits (n - l) (v / 2 ^ l) ≡ bits (n - (l + s)) (v / 2 ^ (l + s)) ++ bits s (v / 2 ^ l % 2 ^ s)
+bits_first v n l s h =
+    let w = v / 2 ^ l in
+    let k : n - l ≡ n - (l + s) + s = omega arith in
+    ap₂ bits k (sym (div-add-mod' w (2 ^ s))) ∙ bits_join (n - (l + s)) s (w / 2 ^ s) (w % 2 ^ s) (mod_below w (2 ^ s) (pow_pos s))
+    ∙ ap (λ q. bits (n - (l + s)) q ++ bits s (w % 2 ^ s)) (shr-shr v l s)
 
 bits_zero : (n : ℕ) → bits n 0 ≡ replicate n 0
 bits_zero zero = refl
@@ -37,26 +54,33 @@ bits_of_append : (xs ys : List ℕ) → bits_of (xs ++ ys) ≡ bits_of xs ++ bit
 bits_of_append [] ys = refl
 bits_of_append (x ∷ xs) ys = ap (λ bs. bits 8 x ++ bs) (bits_of_append xs ys) ∙ sym (append_assoc (bits 8 x) (bits_of xs) (bits_of ys))
 
--- one bit is written: into the byte that is held, or as its last
-pub pushed_held : (p q : Pen) (b : ℕ) → b < 2 → q.bytes.now ≡ p.bytes.now → q.at ≡ p.at → q.filled ≡ p.filled + 1 → q.current ≡ 2 * p.current + b → q.bytes.ghost_name ≡ p.bytes.ghost_name → Pushed p q (b ∷ [])
-pushed_held p q b h e a f c r = record {
-  adds =
-      ap₂ (λ (xs ys : List ℕ). xs ++ ys) (ap₂ (λ n xs. bits_of (take n xs)) a e) (ap₂ bits f c ∙ bits_more p.filled p.current b h)
-      ∙ sym (append_assoc (bits_of (take p.at p.bytes.now)) (bits p.filled p.current) (b ∷ []));
-  on = omega arith;
-  past = ap (drop q.at) e;
-  same_length = ap length e;
-  same_reference = r;
-}
+-- so many bits more fit so many bits more
+pub low_join : (n s x y : ℕ) → x < 2 ^ n → y < 2 ^ s → x * 2 ^ s + y < 2 ^ (n + s)
+low_join n s x y h l = let e : 2 ^ (n + s) ≡ 2 ^ n * 2 ^ s = pow-add 2 n s in subst (λ z. x * 2 ^ s + y < z) (mul_comm (2 ^ s) (2 ^ n) ∙ sym e) (mul-add-lt x (2 ^ s) y (2 ^ n) h l)
 
-pub pushed_whole : (p q : Pen) (b : ℕ) → b < 2 → p.at < length p.bytes.now → p.filled ≡ 7 → q.bytes.now ≡ set p.bytes.now p.at (2 * p.current + b) → q.at ≡ p.at + 1 → q.filled ≡ 0 → q.bytes.ghost_name ≡ p.bytes.ghost_name
-    → Pushed p q (b ∷ [])
-pushed_whole p q b h l s e a f r =
+-- a number of few bits is written: into the byte that is held, or as its end
+pub pushed_held : (p q : Pen) (s b : ℕ) → b < 2 ^ s → q.bytes.now ≡ p.bytes.now → q.at ≡ p.at → q.filled ≡ p.filled + s → q.current ≡ p.current * 2 ^ s + b → q.bytes.ghost_name ≡ p.bytes.ghost_name → Pushed p q (bits s b)
+pushed_held p q s b h e a f c r =
+    let long = length_bits s b in
+    record {
+      adds =
+          ap₂ (λ (xs ys : List ℕ). xs ++ ys) (ap₂ (λ n xs. bits_of (take n xs)) a e) (ap₂ bits f c ∙ bits_join p.filled s p.current b h)
+          ∙ sym (append_assoc (bits_of (take p.at p.bytes.now)) (bits p.filled p.current) (bits s b));
+      on = omega arith;
+      past = ap (drop q.at) e;
+      same_length = ap length e;
+      same_reference = r;
+    }
+
+pub pushed_whole : (p q : Pen) (s b : ℕ) → b < 2 ^ s → p.at < length p.bytes.now → p.filled + s ≡ 8 → q.bytes.now ≡ set p.bytes.now p.at (p.current * 2 ^ s + b) → q.at ≡ p.at + 1 → q.filled ≡ 0
+    → q.bytes.ghost_name ≡ p.bytes.ghost_name → Pushed p q (bits s b)
+pushed_whole p q s b h l t e a f r =
     let xs = p.bytes.now in
-    let x = 2 * p.current + b in
+    let x = p.current * 2 ^ s + b in
     let front = bits_of (take p.at xs) in
-    let whole : bits 8 x ++ [] ≡ bits p.filled p.current ++ (b ∷ []) =
-    append-nil (bits 8 x) ∙ bits_more 7 p.current b h ∙ ap (λ n. bits n p.current ++ (b ∷ [])) (sym s) in
+    let long = length_bits s b in
+    let whole : bits 8 x ++ [] ≡ bits p.filled p.current ++ bits s b =
+    append-nil (bits 8 x) ∙ ap (λ n. bits n x) (sym t) ∙ bits_join p.filled s p.current b h in
     record {
       adds =
           ap₂ (λ (ys zs : List ℕ). ys ++ zs) (ap₂ (λ n ys. bits_of (take n ys)) a e) (ap (λ m. bits m q.current) f)
@@ -64,7 +88,7 @@ pushed_whole p q b h l s e a f r =
           ∙ ap bits_of (take_more_set xs p.at x l)
           ∙ bits_of_append (take p.at xs) (x ∷ [])
           ∙ ap (λ bs. front ++ bs) whole
-          ∙ sym (append_assoc front (bits p.filled p.current) (b ∷ []));
+          ∙ sym (append_assoc front (bits p.filled p.current) (bits s b));
       on = omega arith;
       past = ap (drop q.at) e ∙ drop-set-lt q.at xs p.at x (omega arith);
       same_length = ap length e ∙ length-set xs p.at x;

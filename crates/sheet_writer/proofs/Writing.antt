@@ -32,7 +32,7 @@ list_step size all i below =
     ∙ ap (list_bits size) (sym (take_more all i [] below))
 
 -- nothing stands written at a fresh pen
-written_fresh : (p : Pen) (xs : List ℕ) → Fresh p xs → written p ≡ []
+pub written_fresh : (p : Pen) (xs : List ℕ) → Fresh p xs → written p ≡ []
 written_fresh p xs f = ap₂ (λ a n. bits_of (take a p.bytes.now) ++ bits n p.current) f.at_start f.none_filled
 
 -- the counts are the lengths of the lists
@@ -42,7 +42,7 @@ counts_are g counts is =
     ap₂ (λ x y. made x y counts.ring1) (is.are Bit) (is.are Ring0) ∙ ap (made (length (g Bit)) (length (g Ring0))) (is.are Ring1)
 
 -- the parts of a sheet
-parts : (seat : ℕ) (g : Halves) (counts : PerKind ℕ) → Counted g counts → header_bits seat counts ++ body_bits seat g ≡ encode seat g
+pub parts : (seat : ℕ) (g : Halves) (counts : PerKind ℕ) → Counted g counts → header_bits seat counts ++ body_bits seat g ≡ encode seat g
 unfolding encode
 parts seat g counts is =
     let h = header_bits seat counts in

@@ -11,7 +11,7 @@ ghost use Rattle.dealer.specs.Ranges.{dealt_in_range};
 ghost use Rattle.dealer.specs.Dealers.{dealer_owner, dealer_left, Made, LawfulDeal};
 
 use crate::dealer::Dealer;
-use crate::running::{after, half};
+use crate::running::half;
 use refusal::kind::Kind;
 use refusal::per_kind::PerKind;
 use refusal::refusal::{Layer, Refusal};
@@ -96,8 +96,8 @@ impl Source for Dealer {
 
     fn take(&mut self, kind: Kind) -> Result<Half, Refusal> {
         self.check(kind, 1)?;
-        let x = self.running.get(kind);
-        self.move_on(kind, after(kind, x));
-        Ok(half(self.seat, kind, x))
+        let (taken, running) = half(self.seat, kind, self.running.get(kind));
+        self.move_on(kind, running);
+        Ok(taken)
     }
 }

@@ -1,5 +1,5 @@
 // Writing bits, numbers and halves with a pen.
-ghost use Rattle.std.specs.Prelude.{◌≡◌, ◌+◌, ◌<◌, ◌≤◌, [], ◌∷◌, length};
+ghost use Rattle.std.specs.Prelude.{◌≡◌, ◌+◌, ◌^◌, ◌<◌, ◌≤◌, length};
 ghost use Rattle.refusal.specs.Seats.{number};
 ghost use Rattle.sheets.specs.Bits.{bits};
 ghost use Rattle.sheets.specs.Layout.{field_size, row_bits};
@@ -24,32 +24,38 @@ impl<'a> Pen<'a> {
         }
     }
 
-    // Writes one bit more.
-    fn push_bit(&mut self, bit: u32)
-        requires one_bit { bit < 2 }
-        requires room { place self.old < capacity self.old }
-        ensures { Pushed self.old self.new (bit ∷ []) }
+    // Writes a number of few bits, for which the byte that is held has room.
+    #[tactic(auto, using(crate::proofs::Strokes::low_join))]
+    fn push_part(&mut self, part: u32, size: u32)
+        requires low { part < 2 ^ size }
+        requires fits { self.old.filled + size ≤ 8 }
+        requires room { place self.old + size ≤ capacity self.old }
+        ensures { Pushed self.old self.new (bits size part) }
     {
-        let current = 2 * self.current + bit;
-        if self.filled == 7 {
+        let current = (self.current << size) + part;
+        if self.filled + size == 8 {
             self.bytes[self.at] = current as u8;
             self.at += 1;
             self.current = 0;
             self.filled = 0;
         } else {
-            self.filled += 1;
+            self.filled += size;
             self.current = current;
         }
     }
 
-    // Writes a number in so many bits, the most significant first.
+    // Writes a number in so many bits, the most significant first, as many at a time as the byte that is held
+    // has room for: bit by bit the pen would go to memory and back for each.
     pub(crate) fn push(&mut self, value: u32, n: u32)
         requires few { n ≤ 32 }
         requires room { place self.old + n ≤ capacity self.old }
         ensures { Pushed self.old self.new (bits n value) }
     {
-        for i in 0..n {
-            self.push_bit((value >> (n - 1 - i)) % 2);
+        let mut left = n;
+        while 0 < left {
+            let size = left.min(8 - self.filled);
+            left -= size;
+            self.push_part((value >> left) % (1 << size), size);
         }
     }
 

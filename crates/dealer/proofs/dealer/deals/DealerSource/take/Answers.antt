@@ -11,4 +11,4 @@ returns-clause-takes c =
     let k = c.args.kind in
     let moved = c.move_on.ensures in
     let some : 0 < at s.counts k = omega (arith, c.in_ok-check.ensures, length_dealt (dealer_owner s) k (at s.counts k) (at s.running k)) in
-    rw (c.half.ensures, moved.seat, moved.counts, moved.running, c.after.ensures, c.get-x.ensures) (dealer_took (dealer_owner s) k s.counts s.running some)
+    rw (c.half-taken.ensures.half, moved.seat, moved.counts, moved.running, c.half-taken.ensures.after, c.get.ensures) (dealer_took (dealer_owner s) k s.counts s.running some)
