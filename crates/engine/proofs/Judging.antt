@@ -31,7 +31,7 @@ pub record Accepted {N : Type 0} (c : Command N) (p : Public) (q : Receipt) : Ty
   pub enough : (g : Seat) (k : Kind) → needs q k ≤ p.left g k
   pub carries : q.messages ≤ p.budget
 
-checked_true : {N : Type 0} (c : Command N) (p : Shape) (v : Verdict) (q : Receipt) → checked c p v ≡ Ok q → Fitting c p × (v ≡ Ok q)
+pub checked_true : {N : Type 0} (c : Command N) (p : Shape) (v : Verdict) (q : Receipt) → checked c p v ≡ Ok q → Fitting c p × (v ≡ Ok q)
 checked_true c p v q e =
     let c4 = unless_true _ _ _ q e in
     let c5 = unless_true _ _ _ q c4.1 in
