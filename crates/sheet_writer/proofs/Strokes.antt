@@ -1,4 +1,4 @@
--- What strokes of a pen write: one bit, one stroke after another, a number, a row of fields, and the filling.
+-- What strokes of a pen write: a few bits, one stroke after another, a number, a row of fields, and the filling.
 use Rattle.std.proofs.Common.{◌≡◌, ℕ, zero, suc, ◌+◌, ◌-◌, ◌*◌, ◌/◌, ◌%◌, ◌^◌, ◌<◌, ◌≤◌, List, [], ◌∷◌, ◌++◌, length, get_or, take, drop, set, replicate, sym, refl, ap, ◌∙◌, subst, ap₂, append_assoc, append-nil, mul_assoc, mul_comm, pow-suc, add-one, arith, take-append-drop, length-set}
 use native.Mathlib.Nat.{pow-succ', div-div-eq-div-mul, zero-div}
 use Rattle.std.proofs.lemmas.Nat.{pow_pos, pow-add, shr-shr, div-add-mod', mul-add-lt, mod_below}
@@ -38,7 +38,7 @@ bits_join n (suc s) x y h =
     ∙ append_assoc (bits n x) (bits s (y / 2)) (y % 2 ∷ [])
     ∙ ap (λ bs. bits n x ++ bs) (sym (bits_last s y))
 
--- of a number of n bits, s bits more than the first ones, and so many left
+-- the first bits of a number of n bits, where l are left: those before, and s more
 pub bits_first : (v n l s : ℕ) → l + s ≤ n → bits (n - l) (v / 2 ^ l) ≡ bits (n - (l + s)) (v / 2 ^ (l + s)) ++ bits s (v / 2 ^ l % 2 ^ s)
 bits_first v n l s h =
     let w = v / 2 ^ l in
